@@ -1,0 +1,12 @@
+pub mod Lists
+pub mod Bytes
+pub mod Problem
+pub mod Logic
+pub mod Elimination
+pub mod Ranges
+pub mod Places
+pub mod Verdict
+pub mod Witness
+pub mod Operations
+pub mod Night
+pub mod Worked

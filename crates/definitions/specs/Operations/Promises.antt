@@ -1,0 +1,36 @@
+-- What each public operation promises, for every input: the answer, read in the paper's numbers, and every lent buffer's whole
+-- content afterwards (01, 'Promises and idle programs'). A name with a prime is the content afterwards. Assumes nothing.
+use Prim.Native.Nat.{ℕ}
+use mathlib.Core.Path.{_≡_}
+use mathlib.Core.List.{List}
+use lib.ListN.{length}
+use Rattle.definitions.specs.Operations.Answers.{checkAnswer, eliminateAnswer, rangesAnswer, decideAnswer}
+use Rattle.definitions.specs.Operations.Buffers.{workAfter, workAfterDecide, witnessAfter}
+use Rattle.definitions.specs.Operations.Readings.{checkedRead, eliminatedRead, rangesRead, decisionRead}
+use Rattle.definitions.specs.Operations.Host.{HostOutcome, hostOutcome}
+use Rattle.definitions.specs.declared.Checked.{Checked}
+use Rattle.definitions.specs.declared.Eliminated.{Eliminated}
+use Rattle.definitions.specs.declared.Ranges.{Ranges}
+use Rattle.definitions.specs.declared.Decision.{Decision}
+
+pub record CheckPromise (s : List ℕ) (r : Checked) : Type 0 where
+  pub answers : checkedRead r ≡ checkAnswer s
+
+pub record EliminatePromise (s work : List ℕ) (r : Eliminated) (work′ : List ℕ) : Type 0 where
+  pub answers : eliminatedRead r ≡ eliminateAnswer s (length work)
+  pub work-after : work′ ≡ workAfter s work
+
+pub record RangesPromise (s work : List ℕ) (r : Ranges) (work′ : List ℕ) : Type 0 where
+  pub answers : rangesRead r ≡ rangesAnswer s (length work)
+  pub work-after : work′ ≡ workAfter s work
+
+pub record DecidePromise (budget : ℕ) (s work witness : List ℕ) (r : Decision) (work′ witness′ : List ℕ) : Type 0 where
+  pub answers : decisionRead r ≡ decideAnswer s budget (length work) (length witness)
+  pub work-after : work′ ≡ workAfterDecide s work (length witness)
+  pub witness-after : witness′ ≡ witnessAfter s budget (length work) witness
+
+pub record HostPromise (budget : ℕ) (s work witness answer : List ℕ) (r : ℕ) (work′ witness′ answer′ : List ℕ) : Type 0 where
+  pub returns : r ≡ hostOutcome budget s work witness answer .returned
+  pub work-after : work′ ≡ hostOutcome budget s work witness answer .work
+  pub witness-after : witness′ ≡ hostOutcome budget s work witness answer .witness
+  pub answer-after : answer′ ≡ hostOutcome budget s work witness answer .answer
