@@ -1,0 +1,14 @@
+pub mod Tests
+pub mod Grown
+pub mod Stable
+pub mod Chains
+pub mod Renaming
+pub mod Chosen
+pub mod Copies
+pub mod Forward
+pub mod Extends
+pub mod Meaning
+pub mod Backward
+pub mod Assigned
+pub mod Reach
+pub mod Small

@@ -1,0 +1,163 @@
+-- The small-model lemma: every assignment can be renamed into the ranges, so that within each component the same variables
+-- are equal. A variable takes the rank of the first variable of its component with its value. Assumes nothing.
+use mathlib.Core.Path.{_≡_, refl, sym, ap, ap₂, _∙_, subst}
+use Prim.Native.Nat.{ℕ, zero, suc, _+_, _≤_, _<_}
+use native.Mathlib.Omega.{arith}
+use native.Mathlib.Nat.{add-zero, add-suc}
+use mathlib.Core.Bool.{Bool, true, false, _&&_, cond, false≢true}
+use mathlib.Core.Logic.{_↔_, _⊎_, inl, inr}
+use lib.Dec.{eqb, ltb}
+use borrow.Author.Tests.{eq-eqb, eqb-true, ltb-true, ltb-false}
+use Rattle.definitions.specs.Ranges.{howMany, rank}
+use Rattle.theorems.proofs.Tests.{and-intro, and-left, and-right, same-test, split}
+
+howMany-same : (f g : ℕ → Bool) → ((i : ℕ) → f i ≡ g i) → (n : ℕ) → howMany f n ≡ howMany g n
+howMany-same f g h zero = refl
+howMany-same f g h (suc n) = ap₂ (λ (b : Bool) (m : ℕ). cond b 1 0 + m) (h n) (howMany-same f g h n)
+
+-- a member below n counts
+howMany-less : (f : ℕ → Bool) (m n : ℕ) → m < n → f m ≡ true → howMany f m < howMany f n
+howMany-less f m zero h e = absurd (omega arith)
+howMany-less f m (suc n) h e =
+    elim (split m n) [
+      | inl l ↦ let r = howMany-less f m n l e in omega arith
+      | inr l ↦
+          let q : m ≡ n = omega arith in
+          let one : _≡_ {A = ℕ} (cond (f n) 1 0) 1 = ap (λ (b : Bool). cond b 1 0) (subst (λ (x : ℕ). f x ≡ true) q e) in
+          let eq : howMany f m ≡ howMany f n = ap (howMany f) q in
+          omega arith
+    ]
+
+-- the first number from i on that passes the test, and i + m if none before that does
+abbrev pub seek : (ℕ → Bool) → ℕ → ℕ → ℕ
+seek f i zero = i
+seek f i (suc m) = cond (f i) i (seek f (suc i) m)
+
+record Sought (f : ℕ → Bool) (i m r : ℕ) : Type 0 where
+  low : i ≤ r
+  high : r ≤ i + m
+  none : (j : ℕ) → i ≤ j → j < r → f j ≡ true → ⊥
+  found : f (i + m) ≡ true → f r ≡ true
+
+sought : (f : ℕ → Bool) (i m : ℕ) → Sought f i m (seek f i m)
+sought f i zero =
+    record {
+      low = omega arith;
+      high = omega arith;
+      none = λ j l h e. omega arith;
+      found = λ e. subst (λ (x : ℕ). f x ≡ true) (add-zero i) e;
+    }
+sought f i (suc m) = go (f i) refl (sought f (suc i) m)
+  where
+    go : (b : Bool) → f i ≡ b → Sought f (suc i) m (seek f (suc i) m) → Sought f i (suc m) (cond b i (seek f (suc i) m))
+    go true e s =
+        record { low = omega arith; high = omega arith; none = λ j l h e′. omega arith; found = λ _. e }
+    go false e s =
+        record {
+          low = let l = s .low in omega arith;
+          high = let h = s .high in omega arith;
+          none =
+              λ j l h e′.
+              elim (split i j) [
+                | inl i<j ↦ s .none j i<j h e′
+                | inr j≤i ↦ false≢true (sym e ∙ subst (λ (x : ℕ). f x ≡ true) (omega arith) e′)
+              ];
+          found = λ e′. s .found (subst (λ (x : ℕ). f x ≡ true) (omega arith) e′);
+        }
+
+module _
+    (J : ℕ → ℕ → Bool)
+    (N : ℕ)
+    (J-refl : (u : ℕ) → J u u ≡ true)
+    (J-sym : (u v : ℕ) → J u v ≡ J v u)
+    (J-trans : (u v w : ℕ) → v < N → J u v ≡ true → J v w ≡ true → J u w ≡ true) where
+  swap : (u v : ℕ) → J u v ≡ true → J v u ≡ true
+  swap u v e = J-sym v u ∙ e
+
+  same-row : (u v : ℕ) → u < N → v < N → J u v ≡ true → (i : ℕ) → J u i ≡ J v i
+  same-row u v hu hv e i = same-test (J u i) (J v i) (λ p. J-trans v u i hu (swap u v e) p) (λ p. J-trans u v i hv e p)
+
+  rank-less : (u v : ℕ) → u < N → v < N → J u v ≡ true → u < v → rank J u < rank J v
+  rank-less u v hu hv e l =
+      let eq = howMany-same (J u) (J v) (same-row u v hu hv e) u in
+      let r = howMany-less (J v) u v l (swap u v e) in
+      omega arith
+
+  rank-le : (u v : ℕ) → u < N → v < N → J u v ≡ true → u ≤ v → rank J u ≤ rank J v
+  rank-le u v hu hv e l =
+      elim (split u v) [
+        | inl h ↦ let r = rank-less u v hu hv e h in omega arith
+        | inr h ↦ let q = ap (rank J) (let q : u ≡ v = omega arith in q) in omega arith
+      ]
+
+  rank-inj : (u v : ℕ) → u < N → v < N → J u v ≡ true → rank J u ≡ rank J v → u ≡ v
+  rank-inj u v hu hv e q =
+      elim (split u v) [
+        | inl h ↦ let r = rank-less u v hu hv e h in omega arith
+        | inr h ↦
+            elim (split v u) [
+              | inl h′ ↦ let r = rank-less v u hv hu (swap u v e) h′ in omega arith
+              | inr h′ ↦ omega arith
+            ]
+      ]
+
+  module _ (a : ℕ → ℕ) where
+    abbrev pub twin : ℕ → ℕ → Bool
+    twin v u = J v u && eqb (a u) (a v)
+
+    -- the first variable of v's component with v's value
+    abbrev pub rep : ℕ → ℕ
+    rep v = seek (twin v) 0 v
+
+    abbrev pub renamed : ℕ → ℕ
+    renamed v = rank J (rep v)
+
+    twin-self : (v : ℕ) → twin v v ≡ true
+    twin-self v = and-intro (J v v) (eqb (a v) (a v)) (J-refl v) (eq-eqb (a v) (a v) refl)
+
+    rep-found : (v : ℕ) → twin v (rep v) ≡ true
+    rep-found v = sought (twin v) 0 v .found (subst (λ (x : ℕ). twin v x ≡ true) (omega arith) (twin-self v))
+
+    rep-le : (v : ℕ) → rep v ≤ v
+    rep-le v = let h = sought (twin v) 0 v .high in omega arith
+
+    rep-joined : (v : ℕ) → J v (rep v) ≡ true
+    rep-joined v = and-left (J v (rep v)) (eqb (a (rep v)) (a v)) (rep-found v)
+
+    rep-value : (v : ℕ) → a (rep v) ≡ a v
+    rep-value v = eqb-true (a (rep v)) (a v) (and-right (J v (rep v)) (eqb (a (rep v)) (a v)) (rep-found v))
+
+    pub renamed-low : (v : ℕ) → 1 ≤ renamed v
+    renamed-low v = omega arith
+
+    pub renamed-high : (v : ℕ) → v < N → renamed v ≤ rank J v
+    renamed-high v h =
+        let l = rep-le v in
+        rank-le (rep v) v (omega arith) h (swap v (rep v) (rep-joined v)) l
+
+    module _ (u v : ℕ) (hu : u < N) (hv : v < N) (e : J u v ≡ true) where
+      same-twin : a u ≡ a v → (i : ℕ) → twin u i ≡ twin v i
+      same-twin q i = ap₂ _&&_ (same-row u v hu hv e i) (ap (eqb (a i)) q)
+
+      not-before : a u ≡ a v → rep u < rep v → ⊥
+      not-before q l = sought (twin v) 0 v .none (rep u) (omega arith) l (sym (same-twin q (rep u)) ∙ rep-found u)
+
+      not-after : a u ≡ a v → rep v < rep u → ⊥
+      not-after q l = sought (twin u) 0 u .none (rep v) (omega arith) l (same-twin q (rep v) ∙ rep-found v)
+
+      rep-same : a u ≡ a v → rep u ≡ rep v
+      rep-same q = let b = not-before q in let c = not-after q in omega arith
+
+      joined-reps : J (rep u) (rep v) ≡ true
+      joined-reps =
+          J-trans (rep u) u (rep v) hu (swap u (rep u) (rep-joined u)) (J-trans u v (rep v) hv e (rep-joined v))
+
+      -- within a component the renaming keeps which variables are equal
+      pub renamed-same : (a u ≡ a v) ↔ (renamed u ≡ renamed v)
+      renamed-same = (
+        λ q. ap (rank J) (rep-same q),
+        λ q.
+            let lu = rep-le u in
+            let lv = rep-le v in
+            sym (rep-value u) ∙ ap a (rank-inj (rep u) (rep v) (omega arith) (omega arith) joined-reps q) ∙ rep-value v,
+      )
