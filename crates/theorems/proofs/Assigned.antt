@@ -5,6 +5,7 @@ use Prim.Native.Nat.{ℕ, zero, suc, _+_, _≤_, _<_}
 use native.Mathlib.Omega.{arith}
 use mathlib.Core.Bool.{Bool, true, false, _&&_, false≢true}
 use mathlib.Core.List.{List, [], _∷_, _++_, map, append-assoc}
+use mathlib.Core.Logic.{inl, inr}
 use mathlib.Core.Option.{Option, none, some}
 use lib.ListN.{length, getD, length-append}
 use lib.Dec.{eqb}
@@ -17,7 +18,8 @@ use Rattle.definitions.specs.Logic.{Interpretation, Value, number, truth, numbe
 use Rattle.definitions.specs.Elimination.{App, State, begin, imagesOf, sameSymbol, sameOp, nextVar, earliest, appStep, copy, step, steps}
 use Rattle.theorems.proofs.Tests.{and-left, and-right}
 use Rattle.theorems.proofs.Chosen.{chosen, sameList, pickValue, Kind}
-use Rattle.theorems.proofs.Forward.{variableValue, kind-of, same-list, app-same}
+use Rattle.theorems.proofs.Ops.{app-op, app-alike}
+use Rattle.theorems.proofs.Variables.{variableValue, variable-kind, app-kind, as-number, as-truth, same-list, same-list-self}
 use Rattle.theorems.proofs.Meaning.{Accord, SameAll, qs, own, mean, vals, image-value}
 use Rattle.theorems.proofs.Backward.{AllApp, steps-apps, keep-append}
 
@@ -103,18 +105,10 @@ module _ (I : Interpretation) (symbols : List ℕ) (T : List Node) (right : firs
           (eqb-true (j .of .op) (app .of .op) (and-left (eqb (j .of .op) (app .of .op)) (eqb (j .var) (app .var)) e))
           (eqb-true (j .var) (app .var) (and-right (eqb (j .of .op) (app .of .op)) (eqb (j .var) (app .var)) e)))
 
-  as-number : (v : Value) → Kind I 0 v → number (numberOf v) ≡ v
-  as-number (number n) k = refl
-  as-number (truth b) k = absurd k
-
-  as-truth : (v : Value) → Kind I 6 v → truth (truthOf v) ≡ v
-  as-truth (number n) k = absurd k
-  as-truth (truth b) k = refl
-
-  kind-meant : (app : App) (op : ℕ) → app .of .op ≡ op → isApp (opOf op) ≡ true → Kind I op (meant app)
+  kind-meant : (app : App) (op : ℕ) → app .of .op ≡ op → isApp (opOf op) ≡ true → Kind op (meant app)
   kind-meant app op q p =
-      subst (λ (o : ℕ). Kind I o (meant app)) q
-      (kind-of I I (values I symbols T) (app .of) _ (app .of .op) (subst (λ (o : ℕ). isApp (opOf o) ≡ true) (sym q) p))
+      subst (λ (o : ℕ). Kind o (meant app)) q
+      (app-kind I (values I symbols T) (app .of) _ (app .of .op) (subst (λ (o : ℕ). isApp (opOf o) ≡ true) (sym q) p))
 
   numbered : Numbered (F .apps)
   numbered = steps-numbered symbols T begin tt
@@ -124,35 +118,21 @@ module _ (I : Interpretation) (symbols : List ℕ) (T : List Node) (right : firs
       ap₂ (λ (o : ℕ) (l : List App). lookup o (app .var) l) (sym q) e
       ∙ looked later rest app (subst Numbered e numbered)
 
-  own-function : (later rest : List App) (app : App) → F .apps ≡ later ++ app ∷ rest → app .of .op ≡ 0
-      → variableValue assigned (opOf (app .of .op)) (app .var) ≡ meant app
+  -- the own variable of an application has the value of the application
+  own-meant : (later rest : List App) (app : App) → F .apps ≡ later ++ app ∷ rest → isApp (opOf (app .of .op)) ≡ true
+      → variableValue assigned (app .of .op) (app .var) ≡ meant app
   unfolding assigned
-  own-function later rest app e q =
-      ap (λ (o : ℕ). variableValue assigned (opOf o) (app .var)) q
-      ∙ ap (λ (v : Value). number (numberOf v)) (found-in later rest app e 0 q)
-      ∙ as-number (meant app) (kind-meant app 0 q refl)
-
-  own-predicate : (later rest : List App) (app : App) → F .apps ≡ later ++ app ∷ rest → app .of .op ≡ 6
-      → variableValue assigned (opOf (app .of .op)) (app .var) ≡ meant app
-  unfolding assigned
-  own-predicate later rest app e q =
-      ap (λ (o : ℕ). variableValue assigned (opOf o) (app .var)) q
-      ∙ ap (λ (v : Value). truth (truthOf v)) (found-in later rest app e 6 q)
-      ∙ as-truth (meant app) (kind-meant app 6 q refl)
-
-  own-meant : (later rest : List App) (app : App) → F .apps ≡ later ++ app ∷ rest → (op : ℕ) → app .of .op ≡ op → isApp (opOf op) ≡ true
-      → variableValue assigned (opOf (app .of .op)) (app .var) ≡ meant app
-  own-meant later rest app e zero q p = own-function later rest app e q
-  own-meant later rest app e (suc zero) q p = absurd (false≢true p)
-  own-meant later rest app e (suc (suc zero)) q p = absurd (false≢true p)
-  own-meant later rest app e (suc (suc (suc zero))) q p = absurd (false≢true p)
-  own-meant later rest app e (suc (suc (suc (suc zero)))) q p = absurd (false≢true p)
-  own-meant later rest app e (suc (suc (suc (suc (suc zero))))) q p = absurd (false≢true p)
-  own-meant later rest app e (suc (suc (suc (suc (suc (suc zero)))))) q p = own-predicate later rest app e q
-  own-meant later rest app e (suc (suc (suc (suc (suc (suc (suc zero))))))) q p = absurd (false≢true p)
-  own-meant later rest app e (suc (suc (suc (suc (suc (suc (suc (suc zero)))))))) q p = absurd (false≢true p)
-  own-meant later rest app e (suc (suc (suc (suc (suc (suc (suc (suc (suc zero))))))))) q p = absurd (false≢true p)
-  own-meant later rest app e (suc (suc (suc (suc (suc (suc (suc (suc (suc (suc k)))))))))) q p = absurd (false≢true p)
+  own-meant later rest app e p =
+      elim (app-op (app .of .op) p) [
+        | inl q ↦
+            ap (λ (o : ℕ). variableValue assigned o (app .var)) q
+            ∙ ap (λ (v : Value). number (numberOf v)) (found-in later rest app e 0 q)
+            ∙ as-number (meant app) (kind-meant app 0 q refl)
+        | inr q ↦
+            ap (λ (o : ℕ). variableValue assigned o (app .var)) q
+            ∙ ap (λ (v : Value). truth (truthOf v)) (found-in later rest app e 6 q)
+            ∙ as-truth (meant app) (kind-meant app 6 q refl)
+      ]
 
   abbrev given : App → List ℕ
   given = qs I assigned symbols T right
@@ -168,7 +148,7 @@ module _ (I : Interpretation) (symbols : List ℕ) (T : List Node) (right : firs
       let q = same-list (given app) (given j) s in
       ap (λ (o : ℕ). opValue I (values I symbols T) (opOf o) (j .of) (given j)) oq
       ∙ ap (opValue I (values I symbols T) (opOf (app .of .op)) (j .of)) (sym q)
-      ∙ app-same I (values I symbols T) (opOf (app .of .op)) (j .of) (app .of) (given app) p sq
+      ∙ app-alike I (values I symbols T) (values I symbols T) (app .of .op) (j .of) (app .of) (given app) p sq
 
   chosen-meant : (app : App) → isApp (opOf (app .of .op)) ≡ true → (later rest : List App) → F .apps ≡ later ++ rest → AllApp rest
       → chosen given var (given app) (meant app) (keep (sameSymbol (app .of)) rest) ≡ meant app
@@ -178,7 +158,7 @@ module _ (I : Interpretation) (symbols : List ℕ) (T : List Node) (right : firs
       (chosen-meant app p (later ++ (j ∷ [])) rest (e ∙ sym (append-assoc later (j ∷ []) rest)) (a .1))
     where
       pick : (b : Bool) → sameList (given app) (given j) ≡ b → sameSymbol (app .of) j ≡ true → pickValue b (var j) (meant app) ≡ meant app
-      pick true s q = own-meant later rest j e (j .of .op) refl (a .0) ∙ picks app j p q s
+      pick true s q = own-meant later rest j e (a .0) ∙ picks app j p q s
       pick false s q = refl
 
       go : (b : Bool) → sameSymbol (app .of) j ≡ b
@@ -193,7 +173,7 @@ module _ (I : Interpretation) (symbols : List ℕ) (T : List Node) (right : firs
   accord later (app ∷ rest) e a =
       let e′ = e ∙ sym (append-assoc later (app ∷ []) rest) in (
         λ s.
-            ap (λ (v : Value). chosen given var (given app) v (keep (sameSymbol (app .of)) rest)) (own-meant later rest app e (app .of .op) refl (a .0))
+            ap (λ (v : Value). chosen given var (given app) v (keep (sameSymbol (app .of)) rest)) (own-meant later rest app e (a .0))
             ∙ chosen-meant app (a .0) (later ++ (app ∷ [])) rest e′ (a .1),
         accord (later ++ (app ∷ [])) rest e′ (a .1),
       )

@@ -4,6 +4,7 @@ use mathlib.Core.Path.{_≡_, refl, sym, ap, ap₂, _∙_, subst}
 use Prim.Native.Nat.{ℕ, zero, suc}
 use mathlib.Core.Bool.{Bool, true, false, _&&_, false≢true}
 use mathlib.Core.List.{List, [], _∷_, _++_, map, append-assoc}
+use mathlib.Core.Logic.{inl, inr}
 use mathlib.Core.Option.{Option, none, some}
 use lib.ListN.{length, getD}
 use lib.Dec.{eqb}
@@ -17,15 +18,12 @@ use Rattle.definitions.specs.Logic.{Interpretation, Value, number, truth, numbe
 use Rattle.definitions.specs.Elimination.{App, State, begin, imagesOf, sameSymbol, earliest, appStep, copy, step, steps}
 use Rattle.theorems.proofs.Tests.{and-left}
 use Rattle.theorems.proofs.Chosen.{chosen, sameList, pickValue, Kind}
-use Rattle.theorems.proofs.Forward.{variableValue, variable-kind}
+use Rattle.theorems.proofs.Ops.{app-op, app-alike}
+use Rattle.theorems.proofs.Variables.{variableValue, variable-kind, app-kind, as-number, as-truth, same-list, same-list-self}
 use Rattle.theorems.proofs.Meaning.{Accord, SameAll, qs, qsW, own, mean, image-value}
 
 abbrev pub isSym : ℕ → ℕ → App → Bool
 isSym op f app = eqb (app .of .op) op && eqb (app .of .sym) f
-
-self : (xs : List ℕ) → sameList xs xs ≡ true
-self [] = refl
-self (x ∷ xs) = ap₂ _&&_ (eq-eqb x x refl) (self xs)
 
 module _ {X : Type 0} (f : X → Bool) where
   pub keep-append : (xs ys : List X) → keep f (xs ++ ys) ≡ keep f xs ++ keep f ys
@@ -70,7 +68,7 @@ module _ (A : Interpretation) (symbols : List ℕ) (T : List Node) (right : firs
   given j = map (numberAt (values A [] (F .out))) (imagesOf symbols (F .images) (j .of))
 
   abbrev var : App → Value
-  var j = variableValue A (opOf (j .of .op)) (j .var)
+  var j = variableValue A (j .of .op) (j .var)
 
   -- the interpretation that the assignment comes from
   pub built : Interpretation
@@ -90,69 +88,48 @@ module _ (A : Interpretation) (symbols : List ℕ) (T : List Node) (right : firs
       ∙ ap (chosen given var (given app) v) (keep-append f later (app ∷ rest))
       ∙ chosen-append given var (given app) v (keep f later) (keep f (app ∷ rest))
       ∙ ap (λ (b : Bool). chosen given var (given app) (chosen given var (given app) v (keep f later)) (keepIf b app (keep f rest))) here
-      ∙ ap (λ (b : Bool). chosen given var (given app) (pickValue b (var app) (chosen given var (given app) v (keep f later))) (keep f rest)) (self (given app))
+      ∙ ap (λ (b : Bool). chosen given var (given app) (pickValue b (var app) (chosen given var (given app) v (keep f later))) (keep f rest)) (same-list-self (given app))
 
   -- the values picked are numbers for functions, truth values for predicates
-  picked-kind : (op s : ℕ) (xs : List ℕ) (v : Value) (apps : List App) → AllApp apps → Kind A op v → Kind A op (chosen given var xs v (keep (isSym op s) apps))
-  picked-kind op s xs v [] a k = k
-  picked-kind op s xs v (app ∷ apps) a k = go (isSym op s app) refl (λ w kw. picked-kind op s xs w apps (a .1) kw)
+  picked-kind : (op s : ℕ) (xs : List ℕ) (v : Value) (apps : List App) → Kind op v → Kind op (chosen given var xs v (keep (isSym op s) apps))
+  picked-kind op s xs v [] k = k
+  picked-kind op s xs v (app ∷ apps) k = go (isSym op s app) refl (λ w kw. picked-kind op s xs w apps kw)
     where
-      pick : (b : Bool) → Kind A op (var app) → Kind A op (pickValue b (var app) v)
+      pick : (b : Bool) → Kind op (var app) → Kind op (pickValue b (var app) v)
       pick true kv = kv
       pick false kv = k
 
-      go : (b : Bool) → isSym op s app ≡ b → ((w : Value) → Kind A op w → Kind A op (chosen given var xs w (keep (isSym op s) apps)))
-          → Kind A op (chosen given var xs v (keepIf b app (keep (isSym op s) apps)))
+      go : (b : Bool) → isSym op s app ≡ b → ((w : Value) → Kind op w → Kind op (chosen given var xs w (keep (isSym op s) apps)))
+          → Kind op (chosen given var xs v (keepIf b app (keep (isSym op s) apps)))
       go false e rec = rec v k
       go true e rec =
           let q = eqb-true (app .of .op) op (and-left (eqb (app .of .op) op) (eqb (app .of .sym) s) e) in
           rec (pickValue (sameList xs (given app)) (var app) v)
-          (pick (sameList xs (given app)) (subst (λ (o : ℕ). Kind A o (var app)) q (variable-kind A (app .of .op) (app .var) (a .0))))
-
-  pub as-number : (v : Value) → Kind A 0 v → number (numberOf v) ≡ v
-  as-number (number n) k = refl
-  as-number (truth b) k = absurd k
-
-  as-truth : (v : Value) → Kind A 6 v → truth (truthOf v) ≡ v
-  as-truth (number n) k = absurd k
-  as-truth (truth b) k = refl
+          (pick (sameList xs (given app)) (subst (λ (o : ℕ). Kind o (var app)) q (variable-kind A (app .of .op) (app .var))))
 
   all-apps : AllApp (F .apps)
   all-apps = steps-apps symbols T begin tt
 
-  unfold-function : (app : App) → app .of .op ≡ 0 → (vs : List Value) (later rest : List App) → F .apps ≡ later ++ app ∷ rest
+  -- the built value of an application is what the choices pick from the application on
+  unfold-built : (app : App) → isApp (opOf (app .of .op)) ≡ true → (vs : List Value) (later rest : List App) → F .apps ≡ later ++ app ∷ rest
       → opValue built vs (opOf (app .of .op)) (app .of) (given app) ≡ chosen given var (given app) (var app) (keep (sameSymbol (app .of)) rest)
   unfolding built
-  unfold-function app q vs later rest e =
-      ap (λ (o : ℕ). opValue built vs (opOf o) (app .of) (given app)) q
-      ∙ as-number (chosen given var (given app) (number 0) (keep (isSym 0 (app .of .sym)) (F .apps)))
-      (picked-kind 0 (app .of .sym) (given app) (number 0) (F .apps) all-apps tt)
-      ∙ ap (λ (o : ℕ). chosen given var (given app) (number 0) (keep (isSym o (app .of .sym)) (F .apps))) (sym q)
-      ∙ look (number 0) later rest app e
-
-  unfold-predicate : (app : App) → app .of .op ≡ 6 → (vs : List Value) (later rest : List App) → F .apps ≡ later ++ app ∷ rest
-      → opValue built vs (opOf (app .of .op)) (app .of) (given app) ≡ chosen given var (given app) (var app) (keep (sameSymbol (app .of)) rest)
-  unfolding built
-  unfold-predicate app q vs later rest e =
-      ap (λ (o : ℕ). opValue built vs (opOf o) (app .of) (given app)) q
-      ∙ as-truth (chosen given var (given app) (truth false) (keep (isSym 6 (app .of .sym)) (F .apps)))
-      (picked-kind 6 (app .of .sym) (given app) (truth false) (F .apps) all-apps tt)
-      ∙ ap (λ (o : ℕ). chosen given var (given app) (truth false) (keep (isSym o (app .of .sym)) (F .apps))) (sym q)
-      ∙ look (truth false) later rest app e
-
-  unfold-built : (app : App) (op : ℕ) → app .of .op ≡ op → isApp (opOf op) ≡ true → (vs : List Value) (later rest : List App) → F .apps ≡ later ++ app ∷ rest
-      → opValue built vs (opOf (app .of .op)) (app .of) (given app) ≡ chosen given var (given app) (var app) (keep (sameSymbol (app .of)) rest)
-  unfold-built app zero q p vs later rest e = unfold-function app q vs later rest e
-  unfold-built app (suc zero) q p vs later rest e = absurd (false≢true p)
-  unfold-built app (suc (suc zero)) q p vs later rest e = absurd (false≢true p)
-  unfold-built app (suc (suc (suc zero))) q p vs later rest e = absurd (false≢true p)
-  unfold-built app (suc (suc (suc (suc zero)))) q p vs later rest e = absurd (false≢true p)
-  unfold-built app (suc (suc (suc (suc (suc zero))))) q p vs later rest e = absurd (false≢true p)
-  unfold-built app (suc (suc (suc (suc (suc (suc zero)))))) q p vs later rest e = unfold-predicate app q vs later rest e
-  unfold-built app (suc (suc (suc (suc (suc (suc (suc zero))))))) q p vs later rest e = absurd (false≢true p)
-  unfold-built app (suc (suc (suc (suc (suc (suc (suc (suc zero)))))))) q p vs later rest e = absurd (false≢true p)
-  unfold-built app (suc (suc (suc (suc (suc (suc (suc (suc (suc zero))))))))) q p vs later rest e = absurd (false≢true p)
-  unfold-built app (suc (suc (suc (suc (suc (suc (suc (suc (suc (suc k)))))))))) q p vs later rest e = absurd (false≢true p)
+  unfold-built app p vs later rest e =
+      let found : ℕ → Value → Value =
+      λ op v. chosen given var (given app) v (keep (isSym op (app .of .sym)) (F .apps))
+      in
+      elim (app-op (app .of .op) p) [
+        | inl q ↦
+            ap (λ (o : ℕ). opValue built vs (opOf o) (app .of) (given app)) q
+            ∙ as-number (found 0 (number 0)) (picked-kind 0 (app .of .sym) (given app) (number 0) (F .apps) tt)
+            ∙ ap (λ (o : ℕ). found o (number 0)) (sym q)
+            ∙ look (number 0) later rest app e
+        | inr q ↦
+            ap (λ (o : ℕ). opValue built vs (opOf o) (app .of) (given app)) q
+            ∙ as-truth (found 6 (truth false)) (picked-kind 6 (app .of .sym) (given app) (truth false) (F .apps) tt)
+            ∙ ap (λ (o : ℕ). found o (truth false)) (sym q)
+            ∙ look (truth false) later rest app e
+      ]
 
   same-chosen : (q : App → List ℕ) (f : App → Bool) (xs : List ℕ) (v : Value) (js : List App) → SameAll built A symbols T right F js
       → chosen given var xs v (keep f js) ≡ chosen (qs built A symbols T right) var xs v (keep f js)
@@ -172,7 +149,7 @@ module _ (A : Interpretation) (symbols : List ℕ) (T : List Node) (right : firs
     λ s.
         sym
         (ap (opValue built (values built symbols T) (opOf (app .of .op)) (app .of)) (sym (s .0))
-        ∙ unfold-built app (app .of .op) refl (a .0) (values built symbols T) later rest e
+        ∙ unfold-built app (a .0) (values built symbols T) later rest e
         ∙ ap (λ (xs : List ℕ). chosen given var xs (var app) (keep (sameSymbol (app .of)) rest)) (s .0)
         ∙ same-chosen given (sameSymbol (app .of)) (qs built A symbols T right app) (var app) rest (s .1)),
     accord (later ++ (app ∷ [])) rest (e ∙ sym (append-assoc later (app ∷ []) rest)) (a .1),

@@ -30,6 +30,25 @@ abbrev pub chosen : (App → List ℕ) → (App → Value) → List ℕ → Valu
 chosen qs own ps v [] = v
 chosen qs own ps v (j ∷ js) = chosen qs own ps (pickValue (sameList ps (qs j)) (own j) v) js
 
+-- a value of the sort that an application of an op has
+abbrev pub Kind : ℕ → Value → Type 0
+Kind zero (number n) = Unit {0}
+Kind zero (truth b) = ⊥
+Kind (suc op) (number n) = ⊥
+Kind (suc op) (truth b) = Unit {0}
+
+pub kind-pick : (op : ℕ) (b : Bool) (v w : Value) → Kind op v → Kind op w → Kind op (pickValue b v w)
+kind-pick op true v w kv kw = kv
+kind-pick op false v w kv kw = kw
+
+pick-number : (b : Bool) (m n : ℕ) → number (cond b m n) ≡ pickValue b (number m) (number n)
+pick-number true m n = refl
+pick-number false m n = refl
+
+pick-truth : (b c d : Bool) → truth (cond b c d) ≡ pickValue b (truth c) (truth d)
+pick-truth true c d = refl
+pick-truth false c d = refl
+
 module _ (A : Interpretation) where
   -- node i of the table has the value v
   pub record At (out : List Node) (i : ℕ) (v : Value) : Type 0 where
@@ -94,21 +113,6 @@ module _ (A : Interpretation) where
   lay-and : (out : List Node) (x y : ℕ) (p q : Bool) → At out x (truth p) → At out y (truth q)
       → At (snoc out (plain 4 x y 0)) (length out) (truth (p && q))
   lay-and out x y p q a b = fresh out (plain 4 x y 0) (truth (p && q)) (cc (at-truth out x p a, at-truth out y q b))
-
-  -- a value of the sort that an application of an op has
-  abbrev pub Kind : ℕ → Value → Type 0
-  Kind zero (number n) = Unit {0}
-  Kind zero (truth b) = ⊥
-  Kind (suc op) (number n) = ⊥
-  Kind (suc op) (truth b) = Unit {0}
-
-  pick-number : (b : Bool) (m n : ℕ) → number (cond b m n) ≡ pickValue b (number m) (number n)
-  pick-number true m n = refl
-  pick-number false m n = refl
-
-  pick-truth : (b c d : Bool) → truth (cond b c d) ≡ pickValue b (truth c) (truth d)
-  pick-truth true c d = refl
-  pick-truth false c d = refl
 
   lay-choice : (out : List Node) (op x y z : ℕ) (b : Bool) (v w : Value) → Kind op v → Kind op w → At out x (truth b)
       → At out y v → At out z w → At (snoc out (plain (choiceOp op) x y z)) (length out) (pickValue b v w)
@@ -197,10 +201,6 @@ module _ (A : Interpretation) where
   condition-value out (x ∷ xs) [] (p ∷ ps) (q ∷ qs) a c l h = absurd c
   condition-value out (x ∷ xs) (y ∷ ys) (p ∷ ps) (q ∷ qs) a c l h =
       condition-laid out x y p q xs ys ps qs a c (omega arith)
-
-  kind-pick : (op : ℕ) (b : Bool) (v w : Value) → Kind op v → Kind op w → Kind op (pickValue b v w)
-  kind-pick op true v w kv kw = kv
-  kind-pick op false v w kv kw = kw
 
   module _ (op : ℕ) (args : Node → List ℕ) (qs : App → List ℕ) (own : App → Value) where
     -- what is known of an application: the values of its arguments and of its own variable

@@ -1,11 +1,13 @@
 pub mod Tests
+pub mod Ops
 pub mod Grown
-pub mod Stable
+pub mod Fixed
+pub mod Free
 pub mod Chains
 pub mod Renaming
 pub mod Chosen
-pub mod Copies
-pub mod Forward
+pub mod Repeats
+pub mod Variables
 pub mod Extends
 pub mod Meaning
 pub mod Backward

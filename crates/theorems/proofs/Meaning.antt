@@ -38,34 +38,20 @@ use Rattle.definitions.specs.Elimination.{
   steps,
 }
 use Rattle.definitions.specs.Elimination.{nextVar, variableNode}
-use Rattle.definitions.specs.Logic.{numberOf}
-use Rattle.theorems.proofs.Forward.{variable-kind}
 use Rattle.theorems.proofs.Extends.{Starts, Ext, steps-ext}
-use Rattle.theorems.proofs.Tests.{and-left, and-right}
-use Rattle.theorems.proofs.Stable.{right-at}
-use Rattle.theorems.proofs.Tests.{split}
+use Rattle.theorems.proofs.Tests.{and-left, and-right, split}
 use Rattle.theorems.proofs.Chosen.{At, Ats, Laid, kept, stays, fresh, last-snoc, laid-snoc, sameList, pickValue, Kind, KnowsAll, Knows, chosen, choices-laid, join, staysAll}
-use Rattle.theorems.proofs.Copies.{V·, meaning, fixed, Terms, terms-more, operands-terms, copy-value}
-use Rattle.theorems.proofs.Forward.{
-  Found,
-  found,
-  not-found,
-  same-list,
-  kind-of,
-  app-same,
-  variableValue,
-  variable-op,
-  no-operands,
-  count-zero,
-  take-many,
-}
+use Rattle.theorems.proofs.Fixed.{fixed, Terms, terms-more, operands-terms, copy-value, right-at, right-below, right-fits}
+use Rattle.theorems.proofs.Ops.{AllBelow}
+use Rattle.theorems.proofs.Repeats.{Found, found, not-found}
+use Rattle.theorems.proofs.Variables.{variableValue, variable-kind, variable-value, no-operands, count-zero, take-many}
 
 module _ (I A : Interpretation) (symbols : List ℕ) (T : List Node) (right : firstWrong symbols [] T ≡ none) where
   abbrev pub vals : List Value
-  vals = V· I symbols T right
+  vals = values I symbols T
 
   abbrev pub mean : Node → Value
-  mean n = meaning I symbols T right n
+  mean n = nodeValue I symbols vals n
 
   abbrev pub given : Node → List ℕ
   given m = map (numberAt vals) (operandsOf symbols m)
@@ -74,7 +60,7 @@ module _ (I A : Interpretation) (symbols : List ℕ) (T : List Node) (right : fi
   qs j = given (j .of)
 
   abbrev pub own : App → Value
-  own j = variableValue A (opOf (j .of .op)) (j .var)
+  own j = variableValue A (j .of .op) (j .var)
 
   -- the arguments of an application, as the function-free table has them in the end
   abbrev pub qsW : State → App → List ℕ
@@ -174,10 +160,10 @@ module _ (I A : Interpretation) (symbols : List ℕ) (T : List Node) (right : fi
     copy-ok : isApp (opOf (n .op)) ≡ false → Inv (copy symbols st n) ns
     copy-ok p =
         let nd = nodeOn (n .op) (imagesOf symbols (st .images) n) in
-        let l = length-take-le (length (st .done)) T (le-of-lt below-T) in
         let e =
-        copy-value (values A [] (st .out)) vals (λ k. getD (st .images) k 0) (length (st .done)) (λ k h. inv .imgs k h .is) A I symbols
-        (take (length (st .done)) T) n (le-of-eq l) p right-here
+        copy-value (values A [] (st .out)) vals (λ k. getD (st .images) k 0) (length (st .done)) (λ k h. inv .imgs k h .is) A I symbols n
+        (subst (λ (m : ℕ). AllBelow m (operandsOf symbols n)) (length-take-le (length (st .done)) T (le-of-lt below-T))
+        (right-below symbols (take (length (st .done)) T) n right-here)) p
         in
         let a = fresh A (st .out) nd (mean n) e in
         let keeps : (j : ℕ) (v : Value) → At A (st .out) j v → At A (snoc (st .out) nd) j v = λ j v b. kept A (st .out) (nd ∷ []) j v b in
@@ -292,7 +278,7 @@ module _ (I A : Interpretation) (symbols : List ℕ) (T : List Node) (right : fi
               arguments = keepsAll (args (app .of)) (qs app) (ats (operandsOf symbols (app .of)) (ok .0 .terms));
               variable = keeps (app .own) (own app) (ok .0 .variable);
               kind =
-                  subst (λ (o : ℕ). Kind A o (own app)) (op-same app e) (variable-kind A (app .of .op) (app .var) (ok .0 .is-app));
+                  subst (λ (o : ℕ). Kind o (own app)) (op-same app e) (variable-kind A (app .of .op) (app .var));
               many = many-same app e;
             },
             rest,
@@ -318,11 +304,11 @@ module _ (I A : Interpretation) (symbols : List ℕ) (T : List Node) (right : fi
         var = variableNode (n .op) (nextVar st n)
 
         abbrev v₀ : Value
-        v₀ = variableValue A (opOf (n .op)) (nextVar st n)
+        v₀ = variableValue A (n .op) (nextVar st n)
 
         own-at : At A (snoc (st .out) var) (length (st .out)) v₀
         own-at =
-            fresh A (st .out) var v₀ (variable-op A (values A [] (st .out)) (n .op) (nextVar st n) (opOf (n .op)) is-app)
+            fresh A (st .out) var v₀ (variable-value A (values A [] (st .out)) (n .op) (nextVar st n) is-app)
 
         first : Laid A (st .out) (snoc (st .out) var) v₀
         first = laid-snoc A (st .out) var v₀ own-at
@@ -339,7 +325,7 @@ module _ (I A : Interpretation) (symbols : List ℕ) (T : List Node) (right : fi
                   (staysAll A (st .out) (snoc (st .out) var) v₀ first (args n) (given n) (ats (operandsOf symbols n) terms-here))
                   (knows (snoc (st .out) var) (λ i v a. stays A (st .out) (snoc (st .out) var) v₀ first i v a)
                   (λ xs ps a. staysAll A (st .out) (snoc (st .out) var) v₀ first xs ps a) (st .apps) (inv .apps))
-                  (variable-kind A (n .op) (nextVar st n) is-app) (first .top)
+                  (variable-kind A (n .op) (nextVar st n)) (first .top)
             ])
 
         add-ok : Inv (addApp symbols st n) ns
