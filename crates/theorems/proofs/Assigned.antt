@@ -19,6 +19,7 @@ use Rattle.definitions.specs.Elimination.{App, State, begin, imagesOf, sameSymb
 use Rattle.theorems.proofs.Tests.{and-left, and-right}
 use Rattle.theorems.proofs.Chosen.{chosen, sameList, pickValue, Kind}
 use Rattle.theorems.proofs.Ops.{app-op, app-alike}
+use Rattle.theorems.proofs.Steps.{step-cases, steps-keep}
 use Rattle.theorems.proofs.Variables.{variableValue, variable-kind, app-kind, as-number, as-truth, same-list, same-list-self}
 use Rattle.theorems.proofs.Meaning.{Accord, SameAll, qs, own, mean, vals, image-value}
 use Rattle.theorems.proofs.Backward.{AllApp, steps-apps, keep-append}
@@ -28,21 +29,10 @@ abbrev Numbered : List App → Type 0
 Numbered [] = Unit {0}
 Numbered (app ∷ apps) = (app .var ≡ length (keep (sameOp (app .of)) apps)) × Numbered apps
 
-step-numbered : (symbols : List ℕ) (st : State) (n : Node) → Numbered (st .apps) → Numbered (step symbols st n .apps)
-step-numbered symbols st n a = go (isApp (opOf (n .op)))
-  where
-    find : (o : Option ℕ) → Numbered (appStep symbols st n o .apps)
-    find (some i) = a
-    find none = (refl, a)
-
-    go : (b : Bool)
-        → Numbered ((elim b as (λ _. State) [ true ↦ appStep symbols st n (earliest n (st .done) (st .images)) | false ↦ copy symbols st n ]) .apps)
-    go true = find (earliest n (st .done) (st .images))
-    go false = a
-
 steps-numbered : (symbols : List ℕ) (ns : List Node) (st : State) → Numbered (st .apps) → Numbered (steps symbols st ns .apps)
-steps-numbered symbols [] st a = a
-steps-numbered symbols (n ∷ ns) st a = steps-numbered symbols ns (step symbols st n) (step-numbered symbols st n a)
+steps-numbered symbols =
+    steps-keep symbols (λ F. Numbered (F .apps))
+    (λ st n a. step-cases symbols st n (λ F. Numbered (F .apps)) (λ p. a) (λ i e. a) (λ p e. (refl, a)))
 
 abbrev isVar : ℕ → ℕ → App → Bool
 isVar op v app = eqb (app .of .op) op && eqb (app .var) v

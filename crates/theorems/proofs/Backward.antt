@@ -18,7 +18,8 @@ use Rattle.definitions.specs.Logic.{Interpretation, Value, number, truth, numbe
 use Rattle.definitions.specs.Elimination.{App, State, begin, imagesOf, sameSymbol, earliest, appStep, copy, step, steps}
 use Rattle.theorems.proofs.Tests.{and-left}
 use Rattle.theorems.proofs.Chosen.{chosen, sameList, pickValue, Kind}
-use Rattle.theorems.proofs.Ops.{app-op, app-alike}
+use Rattle.theorems.proofs.Ops.{app-op}
+use Rattle.theorems.proofs.Steps.{step-cases, steps-keep}
 use Rattle.theorems.proofs.Variables.{variableValue, variable-kind, app-kind, as-number, as-truth, same-list, same-list-self}
 use Rattle.theorems.proofs.Meaning.{Accord, SameAll, qs, qsW, own, mean, image-value}
 
@@ -44,21 +45,10 @@ abbrev pub AllApp : List App → Type 0
 AllApp [] = Unit {0}
 AllApp (app ∷ apps) = (isApp (opOf (app .of .op)) ≡ true) × AllApp apps
 
-step-apps : (symbols : List ℕ) (st : State) (n : Node) → AllApp (st .apps) → AllApp (step symbols st n .apps)
-step-apps symbols st n a = go (isApp (opOf (n .op))) refl
-  where
-    find : (o : Option ℕ) → isApp (opOf (n .op)) ≡ true → AllApp (appStep symbols st n o .apps)
-    find (some i) p = a
-    find none p = (p, a)
-
-    go : (b : Bool) → isApp (opOf (n .op)) ≡ b
-        → AllApp ((elim b as (λ _. State) [ true ↦ appStep symbols st n (earliest n (st .done) (st .images)) | false ↦ copy symbols st n ]) .apps)
-    go true p = find (earliest n (st .done) (st .images)) p
-    go false p = a
-
 pub steps-apps : (symbols : List ℕ) (ns : List Node) (st : State) → AllApp (st .apps) → AllApp (steps symbols st ns .apps)
-steps-apps symbols [] st a = a
-steps-apps symbols (n ∷ ns) st a = steps-apps symbols ns (step symbols st n) (step-apps symbols st n a)
+steps-apps symbols =
+    steps-keep symbols (λ F. AllApp (F .apps))
+    (λ st n a. step-cases symbols st n (λ F. AllApp (F .apps)) (λ p. a) (λ i e. a) (λ p e. (p, a)))
 
 module _ (A : Interpretation) (symbols : List ℕ) (T : List Node) (right : firstWrong symbols [] T ≡ none) where
   abbrev F : State

@@ -19,17 +19,13 @@ use Rattle.definitions.specs.Elimination.{
   choices,
   sameSymbol,
   nextVar,
+  variableNode,
   applied,
-  laid,
-  addApp,
-  repeat,
-  earliest,
-  appStep,
   nodeOn,
-  copy,
   step,
   steps,
 }
+use Rattle.theorems.proofs.Steps.{step-cases}
 
 -- one list starts another
 abbrev pub Starts : {A : Type 0} → List A → List A → Type 0
@@ -74,28 +70,20 @@ pub record Ext (st F : State) : Type 0 where
   pub numbers : Starts (st .images) (F .images)
 
 step-ext : (symbols : List ℕ) (st : State) (n : Node) → Ext st (step symbols st n)
-step-ext symbols st n = go (isApp (opOf (n .op)))
-  where
-    var : Node
-    var = record { op = n .op; sym = nextVar st n; a = 0; b = 0; c = 0 }
-
-    find : (o : Option ℕ) → Ext st (appStep symbols st n o)
-    find (some i) = record { nodes = starts-self (st .out); numbers = starts-snoc (st .images) i }
-    find none =
-        record {
-          nodes =
-              starts-trans (st .out) (snoc (st .out) var) (applied symbols st n) (starts-snoc (st .out) var)
-              (choices-starts (n .op) (imagesOf symbols (st .images)) (keep (sameSymbol n) (st .apps)) (snoc (st .out) var) (imagesOf symbols (st .images) n));
-          numbers = starts-snoc (st .images) (last (applied symbols st n));
-        }
-
-    go : (b : Bool) → Ext st (elim b [ true ↦ appStep symbols st n (earliest n (st .done) (st .images)) | false ↦ copy symbols st n ])
-    go true = find (earliest n (st .done) (st .images))
-    go false =
-        record {
-          nodes = starts-snoc (st .out) (nodeOn (n .op) (imagesOf symbols (st .images) n));
-          numbers = starts-snoc (st .images) (last (snoc (st .out) (nodeOn (n .op) (imagesOf symbols (st .images) n))));
-        }
+step-ext symbols st n =
+    let var = variableNode (n .op) (nextVar st n) in
+    let args = imagesOf symbols (st .images) in
+    let copied = nodeOn (n .op) (args n) in
+    step-cases symbols st n (Ext st)
+    (λ p. record { nodes = starts-snoc (st .out) copied; numbers = starts-snoc (st .images) (last (snoc (st .out) copied)) })
+    (λ i e. record { nodes = starts-self (st .out); numbers = starts-snoc (st .images) i })
+    (λ p e.
+    record {
+      nodes =
+          starts-trans (st .out) (snoc (st .out) var) (applied symbols st n) (starts-snoc (st .out) var)
+          (choices-starts (n .op) args (keep (sameSymbol n) (st .apps)) (snoc (st .out) var) (args n));
+      numbers = starts-snoc (st .images) (last (applied symbols st n));
+    })
 
 pub steps-ext : (symbols : List ℕ) (ns : List Node) (st : State) → Ext st (steps symbols st ns)
 steps-ext symbols [] st = record { nodes = starts-self (st .out); numbers = starts-self (st .images) }

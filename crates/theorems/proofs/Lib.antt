@@ -1,6 +1,7 @@
 pub mod Tests
 pub mod Ops
 pub mod Grown
+pub mod Steps
 pub mod Fixed
 pub mod Free
 pub mod Chains
@@ -14,3 +15,5 @@ pub mod Backward
 pub mod Assigned
 pub mod Reach
 pub mod Small
+pub mod Counts
+pub mod Bound

@@ -38,6 +38,7 @@ use Rattle.definitions.specs.Elimination.{
   steps,
 }
 use Rattle.definitions.specs.Elimination.{nextVar, variableNode}
+use Rattle.theorems.proofs.Steps.{step-cases}
 use Rattle.theorems.proofs.Extends.{Starts, Ext, steps-ext}
 use Rattle.theorems.proofs.Tests.{and-left, and-right, split}
 use Rattle.theorems.proofs.Chosen.{At, Ats, Laid, kept, stays, fresh, last-snoc, laid-snoc, sameList, pickValue, Kind, KnowsAll, Knows, chosen, choices-laid, join, staysAll}
@@ -349,32 +350,14 @@ module _ (I A : Interpretation) (symbols : List ℕ) (T : List Node) (right : fi
 
     -- one step
     pub step-ok : (F : State) → Ext st F → Accord F (step symbols st n .apps) → Inv (step symbols st n) ns
-    step-ok F ext m = go (isApp (opOf (n .op))) refl m
-      where
-        find : (o : Option ℕ) → earliest n (st .done) (st .images) ≡ o → isApp (opOf (n .op)) ≡ true → Accord F (appStep symbols st n o .apps)
-            → Inv (appStep symbols st n o) ns
-        find (some i) e p m′ = repeat-ok i e
-        find none e p m′ =
-            add-ok p e (m′ .0 (same-operands F ext (operandsOf symbols n) (terms-here p e), same-all F ext (st .apps) (inv .apps)))
-
-        go : (b : Bool) → isApp (opOf (n .op)) ≡ b
-            → Accord F ((elim b as (λ _. State) [ true ↦ appStep symbols st n (earliest n (st .done) (st .images)) | false ↦ copy symbols st n ]) .apps)
-            → Inv (elim b [ true ↦ appStep symbols st n (earliest n (st .done) (st .images)) | false ↦ copy symbols st n ]) ns
-        go true p m′ = find (earliest n (st .done) (st .images)) refl p m′
-        go false p m′ = copy-ok p
+    step-ok F ext =
+        step-cases symbols st n (λ G. Accord F (G .apps) → Inv G ns) (λ p m. copy-ok p) (λ i e m. repeat-ok i e)
+        (λ p e m.
+        add-ok p e (m .0 (same-operands F ext (operandsOf symbols n) (terms-here p e), same-all F ext (st .apps) (inv .apps))))
 
   step-tail : (F st : State) (n : Node) → Accord F (step symbols st n .apps) → Accord F (st .apps)
-  step-tail F st n m = go (isApp (opOf (n .op))) m
-    where
-      find : (o : Option ℕ) → Accord F (appStep symbols st n o .apps) → Accord F (st .apps)
-      find (some i) m′ = m′
-      find none m′ = m′ .1
-
-      go : (b : Bool)
-          → Accord F ((elim b as (λ _. State) [ true ↦ appStep symbols st n (earliest n (st .done) (st .images)) | false ↦ copy symbols st n ]) .apps)
-          → Accord F (st .apps)
-      go true m′ = find (earliest n (st .done) (st .images)) m′
-      go false m′ = m′
+  step-tail F st n =
+      step-cases symbols st n (λ G. Accord F (G .apps) → Accord F (st .apps)) (λ p m. m) (λ i e m. m) (λ p e m. m .1)
 
   steps-tail : (F : State) (ns : List Node) (st : State) → Accord F (steps symbols st ns .apps) → Accord F (st .apps)
   steps-tail F [] st m = m
