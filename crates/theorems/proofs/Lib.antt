@@ -5,6 +5,7 @@ pub mod Steps
 pub mod Fixed
 pub mod Free
 pub mod Chains
+pub mod Components
 pub mod Renaming
 pub mod Chosen
 pub mod Repeats
@@ -13,7 +14,11 @@ pub mod Extends
 pub mod Meaning
 pub mod Backward
 pub mod Assigned
-pub mod Reach
-pub mod Small
+pub mod Places
 pub mod Counts
 pub mod Bound
+pub mod SmallModel
+pub mod Adequate
+pub mod Unique
+pub mod Verdict
+pub mod Accepted

@@ -65,17 +65,29 @@ sought f i (suc m) = go (f i) refl (sought f (suc i) m)
           found = λ e′. s .found (subst (λ (x : ℕ). f x ≡ true) (omega arith) e′);
         }
 
-module _
-    (J : ℕ → ℕ → Bool)
-    (N : ℕ)
-    (J-refl : (u : ℕ) → J u u ≡ true)
-    (J-sym : (u v : ℕ) → J u v ≡ J v u)
-    (J-trans : (u v w : ℕ) → v < N → J u v ≡ true → J v w ≡ true → J u w ≡ true) where
+-- an equivalence on the variables below N
+pub record Equivalence (J : ℕ → ℕ → Bool) (N : ℕ) : Type 0 where
+  pub self : (u : ℕ) → J u u ≡ true
+  pub back : (u v : ℕ) → J u v ≡ J v u
+  pub on : (u v w : ℕ) → v < N → J u v ≡ true → J v w ≡ true → J u w ≡ true
+
+-- u is in v's class and has v's value
+abbrev pub twin : (ℕ → ℕ → Bool) → (ℕ → ℕ) → ℕ → ℕ → Bool
+twin J a v u = J v u && eqb (a u) (a v)
+
+-- the first variable of v's class with v's value, and its rank
+abbrev pub rep : (ℕ → ℕ → Bool) → (ℕ → ℕ) → ℕ → ℕ
+rep J a v = seek (twin J a v) 0 v
+
+abbrev pub renamed : (ℕ → ℕ → Bool) → (ℕ → ℕ) → ℕ → ℕ
+renamed J a v = rank J (rep J a v)
+
+module _ (J : ℕ → ℕ → Bool) (N : ℕ) (E : Equivalence J N) where
   swap : (u v : ℕ) → J u v ≡ true → J v u ≡ true
-  swap u v e = J-sym v u ∙ e
+  swap u v e = E .back v u ∙ e
 
   same-row : (u v : ℕ) → u < N → v < N → J u v ≡ true → (i : ℕ) → J u i ≡ J v i
-  same-row u v hu hv e i = same-test (J u i) (J v i) (λ p. J-trans v u i hu (swap u v e) p) (λ p. J-trans u v i hv e p)
+  same-row u v hu hv e i = same-test (J u i) (J v i) (λ p. E .on v u i hu (swap u v e) p) (λ p. E .on u v i hv e p)
 
   rank-less : (u v : ℕ) → u < N → v < N → J u v ≡ true → u < v → rank J u < rank J v
   rank-less u v hu hv e l =
@@ -102,62 +114,52 @@ module _
       ]
 
   module _ (a : ℕ → ℕ) where
-    abbrev pub twin : ℕ → ℕ → Bool
-    twin v u = J v u && eqb (a u) (a v)
+    twin-self : (v : ℕ) → twin J a v v ≡ true
+    twin-self v = and-intro (J v v) (eqb (a v) (a v)) (E .self v) (eq-eqb (a v) (a v) refl)
 
-    -- the first variable of v's component with v's value
-    abbrev pub rep : ℕ → ℕ
-    rep v = seek (twin v) 0 v
+    rep-found : (v : ℕ) → twin J a v (rep J a v) ≡ true
+    rep-found v = sought (twin J a v) 0 v .found (subst (λ (x : ℕ). twin J a v x ≡ true) (omega arith) (twin-self v))
 
-    abbrev pub renamed : ℕ → ℕ
-    renamed v = rank J (rep v)
+    rep-le : (v : ℕ) → rep J a v ≤ v
+    rep-le v = let h = sought (twin J a v) 0 v .high in omega arith
 
-    twin-self : (v : ℕ) → twin v v ≡ true
-    twin-self v = and-intro (J v v) (eqb (a v) (a v)) (J-refl v) (eq-eqb (a v) (a v) refl)
+    rep-joined : (v : ℕ) → J v (rep J a v) ≡ true
+    rep-joined v = and-left (J v (rep J a v)) (eqb (a (rep J a v)) (a v)) (rep-found v)
 
-    rep-found : (v : ℕ) → twin v (rep v) ≡ true
-    rep-found v = sought (twin v) 0 v .found (subst (λ (x : ℕ). twin v x ≡ true) (omega arith) (twin-self v))
+    rep-value : (v : ℕ) → a (rep J a v) ≡ a v
+    rep-value v = eqb-true (a (rep J a v)) (a v) (and-right (J v (rep J a v)) (eqb (a (rep J a v)) (a v)) (rep-found v))
 
-    rep-le : (v : ℕ) → rep v ≤ v
-    rep-le v = let h = sought (twin v) 0 v .high in omega arith
-
-    rep-joined : (v : ℕ) → J v (rep v) ≡ true
-    rep-joined v = and-left (J v (rep v)) (eqb (a (rep v)) (a v)) (rep-found v)
-
-    rep-value : (v : ℕ) → a (rep v) ≡ a v
-    rep-value v = eqb-true (a (rep v)) (a v) (and-right (J v (rep v)) (eqb (a (rep v)) (a v)) (rep-found v))
-
-    pub renamed-low : (v : ℕ) → 1 ≤ renamed v
+    pub renamed-low : (v : ℕ) → 1 ≤ renamed J a v
     renamed-low v = omega arith
 
-    pub renamed-high : (v : ℕ) → v < N → renamed v ≤ rank J v
+    pub renamed-high : (v : ℕ) → v < N → renamed J a v ≤ rank J v
     renamed-high v h =
         let l = rep-le v in
-        rank-le (rep v) v (omega arith) h (swap v (rep v) (rep-joined v)) l
+        rank-le (rep J a v) v (omega arith) h (swap v (rep J a v) (rep-joined v)) l
 
     module _ (u v : ℕ) (hu : u < N) (hv : v < N) (e : J u v ≡ true) where
-      same-twin : a u ≡ a v → (i : ℕ) → twin u i ≡ twin v i
+      same-twin : a u ≡ a v → (i : ℕ) → twin J a u i ≡ twin J a v i
       same-twin q i = ap₂ _&&_ (same-row u v hu hv e i) (ap (eqb (a i)) q)
 
-      not-before : a u ≡ a v → rep u < rep v → ⊥
-      not-before q l = sought (twin v) 0 v .none (rep u) (omega arith) l (sym (same-twin q (rep u)) ∙ rep-found u)
+      not-before : a u ≡ a v → rep J a u < rep J a v → ⊥
+      not-before q l = sought (twin J a v) 0 v .none (rep J a u) (omega arith) l (sym (same-twin q (rep J a u)) ∙ rep-found u)
 
-      not-after : a u ≡ a v → rep v < rep u → ⊥
-      not-after q l = sought (twin u) 0 u .none (rep v) (omega arith) l (same-twin q (rep v) ∙ rep-found v)
+      not-after : a u ≡ a v → rep J a v < rep J a u → ⊥
+      not-after q l = sought (twin J a u) 0 u .none (rep J a v) (omega arith) l (same-twin q (rep J a v) ∙ rep-found v)
 
-      rep-same : a u ≡ a v → rep u ≡ rep v
+      rep-same : a u ≡ a v → rep J a u ≡ rep J a v
       rep-same q = let b = not-before q in let c = not-after q in omega arith
 
-      joined-reps : J (rep u) (rep v) ≡ true
+      joined-reps : J (rep J a u) (rep J a v) ≡ true
       joined-reps =
-          J-trans (rep u) u (rep v) hu (swap u (rep u) (rep-joined u)) (J-trans u v (rep v) hv e (rep-joined v))
+          E .on (rep J a u) u (rep J a v) hu (swap u (rep J a u) (rep-joined u)) (E .on u v (rep J a v) hv e (rep-joined v))
 
       -- within a component the renaming keeps which variables are equal
-      pub renamed-same : (a u ≡ a v) ↔ (renamed u ≡ renamed v)
+      pub renamed-same : (a u ≡ a v) ↔ (renamed J a u ≡ renamed J a v)
       renamed-same = (
         λ q. ap (rank J) (rep-same q),
         λ q.
             let lu = rep-le u in
             let lv = rep-le v in
-            sym (rep-value u) ∙ ap a (rank-inj (rep u) (rep v) (omega arith) (omega arith) joined-reps q) ∙ rep-value v,
+            sym (rep-value u) ∙ ap a (rank-inj (rep J a u) (rep J a v) (omega arith) (omega arith) joined-reps q) ∙ rep-value v,
       )

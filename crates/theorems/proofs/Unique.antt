@@ -1,0 +1,179 @@
+-- No second answer or buffer content meets a promise: the readings of the answer enums can be undone, and the rest of each
+-- promise is an equation. Assumes nothing.
+use mathlib.Core.Path.{_≡_, refl, sym, ap, _∙_}
+use Prim.Native.Nat.{ℕ, pred}
+use mathlib.Core.List.{List, [], _∷_}
+use lib.ListN.{getD}
+use Rattle.definitions.specs.Problem.Check.{Refused}
+use Rattle.definitions.specs.Operations.Answers.{
+  Answer,
+  refused,
+  given,
+  Counts,
+  Table,
+  Measure,
+  RangesAnswer,
+  Verdict,
+  isValid,
+  isFalsified,
+  isStopped,
+  Decided,
+}
+use Rattle.definitions.specs.Operations.Readings.{
+  refusalRead,
+  checkedRead,
+  eliminatedRead,
+  measuredRead,
+  rangesRead,
+  decisionRead,
+}
+use Rattle.definitions.specs.Operations.Promises.{
+  CheckPromise,
+  EliminatePromise,
+  RangesPromise,
+  DecidePromise,
+  HostPromise,
+}
+use Rattle.definitions.specs.declared.Refusal.{Refusal}
+use Rattle.definitions.specs.declared.Refusal.the-variants.{
+  TooShort,
+  NotEqp,
+  BadVersion,
+  BadCounts,
+  BadLength,
+  BadSymbol,
+  BadNode,
+  TermAsked,
+  ManyFunctions,
+  ManyPredicates,
+  ShortWork,
+  ShortWitness,
+  BigProduct,
+}
+use Rattle.definitions.specs.declared.Checked.{Checked}
+use Rattle.definitions.specs.declared.Eliminated.{Eliminated}
+use Rattle.definitions.specs.declared.Measured.{Measured}
+use Rattle.definitions.specs.declared.Ranges.{Ranges}
+use Rattle.definitions.specs.declared.Decision.{Decision}
+
+-- a reading that can be undone tells its values apart
+apart : {A B : Type 0} (read : A → B) (undo : B → A) → ((x : A) → undo (read x) ≡ x) → (x y : A) → read x ≡ read y → x ≡ y
+apart read undo back x y e = sym (back x) ∙ ap undo e ∙ back y
+
+-- the refusal of a number and a place
+abbrev refusalNamed : Refused → Refusal
+refusalNamed r =
+    getD
+    (TooShort
+    ∷ NotEqp
+    ∷ BadVersion
+    ∷ BadCounts
+    ∷ BadLength
+    ∷ BadSymbol (r .place)
+    ∷ BadNode (r .place)
+    ∷ TermAsked
+    ∷ ManyFunctions
+    ∷ ManyPredicates
+    ∷ ShortWork
+    ∷ ShortWitness
+    ∷ [])
+    (pred (r .number)) BigProduct
+
+refusal-back : (r : Refusal) → refusalNamed (refusalRead r) ≡ r
+refusal-back TooShort = refl
+refusal-back NotEqp = refl
+refusal-back BadVersion = refl
+refusal-back BadCounts = refl
+refusal-back BadLength = refl
+refusal-back (BadSymbol k) = refl
+refusal-back (BadNode k) = refl
+refusal-back TermAsked = refl
+refusal-back ManyFunctions = refl
+refusal-back ManyPredicates = refl
+refusal-back ShortWork = refl
+refusal-back ShortWitness = refl
+refusal-back BigProduct = refl
+
+abbrev checkedNamed : Answer Counts → Checked
+checkedNamed (refused r) = Checked.Refused (refusalNamed r)
+checkedNamed (given c) = Checked.Accepted (c .functions) (c .predicates)
+
+checked-back : (r : Checked) → checkedNamed (checkedRead r) ≡ r
+checked-back (Checked.Accepted f p) = refl
+checked-back (Checked.Refused r) = ap Checked.Refused (refusal-back r)
+
+abbrev eliminatedNamed : Answer Table → Eliminated
+eliminatedNamed (refused r) = Eliminated.Refused (refusalNamed r)
+eliminatedNamed (given c) = Eliminated.Table (c .nodes) (c .root)
+
+eliminated-back : (r : Eliminated) → eliminatedNamed (eliminatedRead r) ≡ r
+eliminated-back (Eliminated.Table n k) = refl
+eliminated-back (Eliminated.Refused r) = ap Eliminated.Refused (refusal-back r)
+
+abbrev measuredNamed : Answer Measure → Measured
+measuredNamed (refused r) = Measured.Refused (refusalNamed r)
+measuredNamed (given c) = Measured.Given (c .truths) (c .product)
+
+measured-back : (r : Measured) → measuredNamed (measuredRead r) ≡ r
+measured-back (Measured.Given n k) = refl
+measured-back (Measured.Refused r) = ap Measured.Refused (refusal-back r)
+
+abbrev rangesNamed : RangesAnswer → Ranges
+rangesNamed a = record { tops = a .tops; answer = measuredNamed (a .answer) }
+
+ranges-back : (r : Ranges) → rangesNamed (rangesRead r) ≡ r
+ranges-back r = λ i. record { tops = r .tops; answer = measured-back (r .answer) i }
+
+abbrev verdictNamed : Verdict → ℕ → ℕ → ℕ → Decision
+verdictNamed isValid tried product written = Decision.Valid tried product
+verdictNamed isFalsified tried product written = Decision.Falsified tried product written
+verdictNamed isStopped tried product written = Decision.Stopped tried product
+
+abbrev decisionNamed : Answer Decided → Decision
+decisionNamed (refused r) = Decision.Refused (refusalNamed r)
+decisionNamed (given d) = verdictNamed (d .verdict) (d .tried) (d .product) (d .written)
+
+decision-back : (r : Decision) → decisionNamed (decisionRead r) ≡ r
+decision-back (Decision.Valid t p) = refl
+decision-back (Decision.Falsified t p w) = refl
+decision-back (Decision.Stopped t p) = refl
+decision-back (Decision.Refused r) = ap Decision.Refused (refusal-back r)
+
+-- each reading tells its answers apart
+pub refusal-apart : (r q : Refusal) → refusalRead r ≡ refusalRead q → r ≡ q
+refusal-apart = apart refusalRead refusalNamed refusal-back
+
+pub decision-apart : (r q : Decision) → decisionRead r ≡ decisionRead q → r ≡ q
+decision-apart = apart decisionRead decisionNamed decision-back
+
+-- two outcomes that meet the promise on one input are equal
+pub check-unique : (s : List ℕ) (r q : Checked) → CheckPromise s r → CheckPromise s q → r ≡ q
+check-unique s r q x y = apart checkedRead checkedNamed checked-back r q (x .answers ∙ sym (y .answers))
+
+pub eliminate-unique : (s work : List ℕ) (r q : Eliminated) (w v : List ℕ)
+    → EliminatePromise s work r w → EliminatePromise s work q v → (r ≡ q) × (w ≡ v)
+eliminate-unique s work r q w v x y =
+    (apart eliminatedRead eliminatedNamed eliminated-back r q (x .answers ∙ sym (y .answers)), x .work-after ∙ sym (y .work-after))
+
+pub ranges-unique : (s work : List ℕ) (r q : Ranges) (w v : List ℕ)
+    → RangesPromise s work r w → RangesPromise s work q v → (r ≡ q) × (w ≡ v)
+ranges-unique s work r q w v x y =
+    (apart rangesRead rangesNamed ranges-back r q (x .answers ∙ sym (y .answers)), x .work-after ∙ sym (y .work-after))
+
+pub decide-unique : (budget : ℕ) (s work witness : List ℕ) (r q : Decision) (w v w′ v′ : List ℕ)
+    → DecidePromise budget s work witness r w w′ → DecidePromise budget s work witness q v v′ → (r ≡ q) × (w ≡ v) × (w′ ≡ v′)
+decide-unique budget s work witness r q w v w′ v′ x y = (
+  decision-apart r q (x .answers ∙ sym (y .answers)),
+  x .work-after ∙ sym (y .work-after),
+  x .witness-after ∙ sym (y .witness-after),
+)
+
+pub host-unique : (budget : ℕ) (s work witness answer : List ℕ) (r q : ℕ) (w v w′ v′ a b : List ℕ)
+    → HostPromise budget s work witness answer r w w′ a → HostPromise budget s work witness answer q v v′ b
+    → (r ≡ q) × (w ≡ v) × (w′ ≡ v′) × (a ≡ b)
+host-unique budget s work witness answer r q w v w′ v′ a b x y = (
+  x .returns ∙ sym (y .returns),
+  x .work-after ∙ sym (y .work-after),
+  x .witness-after ∙ sym (y .witness-after),
+  x .answer-after ∙ sym (y .answer-after),
+)
