@@ -28,7 +28,7 @@ module _ (link : ℕ → ℕ → Bool) (N : ℕ) where
   joined-below (back u v j) = let r = joined-below j in (r .1, r .0)
   joined-below (on u v w i j) = (joined-below i .0, joined-below j .1)
 
-  link-chained : (k u v : ℕ) → link u v ≡ true → chained link k u v ≡ true
+  pub link-chained : (k u v : ℕ) → link u v ≡ true → chained link k u v ≡ true
   link-chained zero u v e = or-right (eqb u v) (link u v) e
   link-chained (suc k) u v e = or-left (chained link k u v) _ (link-chained k u v e)
 

@@ -4,6 +4,7 @@ pub mod Grown
 pub mod Steps
 pub mod Fixed
 pub mod Free
+pub mod Grows
 pub mod Chains
 pub mod Components
 pub mod Renaming
@@ -11,6 +12,7 @@ pub mod Chosen
 pub mod Repeats
 pub mod Variables
 pub mod Extends
+pub mod WellLaid
 pub mod Meaning
 pub mod Backward
 pub mod Assigned
@@ -22,3 +24,6 @@ pub mod Adequate
 pub mod Unique
 pub mod Verdict
 pub mod Accepted
+pub mod Truth
+pub mod Exactly
+pub mod Fits

@@ -128,6 +128,11 @@ Sorted earlier [] ks = Unit {0}
 Sorted earlier (s ∷ ss) [] = ⊥
 Sorted earlier (s ∷ ss) (k ∷ ks) = (k < length earlier) × (sortAt earlier k ≡ s) × Sorted earlier ss ks
 
+pub operands-rest : (earlier : List Node) (s : Sort) (ss : List Sort) (k : ℕ) (ks : List ℕ)
+    → operandsRight earlier (s ∷ ss) (k ∷ ks) ≡ true → operandsRight earlier ss ks ≡ true
+operands-rest earlier s ss k ks e =
+    and-right (ltb k (length earlier) && sameSort (sortAt earlier k) s) (operandsRight earlier ss ks) e
+
 pub operands-sorted : (earlier : List Node) (ss : List Sort) (ks : List ℕ) → operandsRight earlier ss ks ≡ true → Sorted earlier ss ks
 operands-sorted earlier [] ks e = tt
 operands-sorted earlier (s ∷ ss) [] e = false≢true e
@@ -135,7 +140,7 @@ operands-sorted earlier (s ∷ ss) (k ∷ ks) e =
     let here = and-left (ltb k (length earlier) && sameSort (sortAt earlier k) s) (operandsRight earlier ss ks) e in (
       ltb-true k (length earlier) (and-left (ltb k (length earlier)) (sameSort (sortAt earlier k) s) here),
       same-sort (sortAt earlier k) s (and-right (ltb k (length earlier)) (sameSort (sortAt earlier k) s) here),
-      operands-sorted earlier ss ks (and-right (ltb k (length earlier) && sameSort (sortAt earlier k) s) (operandsRight earlier ss ks) e),
+      operands-sorted earlier ss ks (operands-rest earlier s ss k ks e),
     )
 
 -- every number of a list is below m
