@@ -28,7 +28,7 @@ use Rattle.definitions.specs.Problem.Check.{
   checkConditions,
   refusalOf,
 }
-use Rattle.theorems.proofs.Tests.{none≢some}
+use Rattle.theorems.proofs.Laws.Tests.{none≢some}
 
 abbrev pub AllNone : {A : Type 0} → List (Option A) → Type 0
 AllNone [] = Unit {0}

@@ -11,7 +11,7 @@ use Rattle.definitions.specs.Ranges.{product}
 use Rattle.definitions.specs.Places.{trueAt}
 use Rattle.definitions.specs.Verdict.{Outcome, valid, falsified, stopped, outcomeOf}
 use Rattle.theorems.proofs.Accepted.{Accepted}
-use Rattle.theorems.proofs.Verdict.{
+use Rattle.theorems.proofs.Search.Verdict.{
   AllTrue,
   FirstFalse,
   first-or-none,

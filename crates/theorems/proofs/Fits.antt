@@ -38,12 +38,12 @@ use Rattle.definitions.specs.Elimination.{begin, steps, eliminated, tableOf}
 use Rattle.definitions.specs.Ranges.{Variables, howMany, rank, joined, tops, topsOf, sizes, sizesOf}
 use Rattle.definitions.specs.Places.{assignment, digitsAt, digitsAfter, valuesAt}
 use Rattle.definitions.specs.Witness.{appRow, rowsAt, witnessAt, witnessBytes}
-use Rattle.theorems.proofs.Tests.{and-left, and-right}
-use Rattle.theorems.proofs.Ops.{AllBelow, operands-sorted, operands-rest}
-use Rattle.theorems.proofs.Free.{Free, namesOf, free-named, free-fits}
-use Rattle.theorems.proofs.Counts.{all-apps}
-use Rattle.theorems.proofs.Bound.{table-bound}
-use Rattle.theorems.proofs.Places.{Within, after-within}
+use Rattle.theorems.proofs.Laws.Tests.{and-left, and-right}
+use Rattle.theorems.proofs.Laws.Ops.{AllBelow, operands-sorted, operands-rest}
+use Rattle.theorems.proofs.Tables.Free.{Free, namesOf, free-named, free-fits}
+use Rattle.theorems.proofs.Elimination.Counts.{all-apps}
+use Rattle.theorems.proofs.Elimination.Bound.{table-bound}
+use Rattle.theorems.proofs.Search.Places.{Within, after-within}
 use Rattle.theorems.proofs.Accepted.{Accepted, length-nodesAt}
 use Rattle.theorems.proofs.Truth.{table-free, sizes-positive}
 

@@ -14,17 +14,17 @@ use Rattle.definitions.specs.Logic.{Interpretation, Value, truthOf, valueAt, tr
 use Rattle.definitions.specs.Elimination.{begin, steps, eliminated, tableOf, rootOf}
 use Rattle.definitions.specs.Ranges.{linked, joined, rank, tops, topsOf, sizes, sizesOf, product}
 use Rattle.definitions.specs.Places.{digitsAt, assignment, valuesAt, trueAt}
-use Rattle.theorems.proofs.Ops.{sortAt}
-use Rattle.theorems.proofs.Free.{Free}
-use Rattle.theorems.proofs.Chains.{chained-refl, chained-sym, chained-trans}
-use Rattle.theorems.proofs.Components.{linked-sym, link-chained}
-use Rattle.theorems.proofs.Renaming.{Equivalence}
-use Rattle.theorems.proofs.Counts.{count-apps}
-use Rattle.theorems.proofs.WellLaid.{eliminated-free, images-length, image-within, image-sort}
-use Rattle.theorems.proofs.Backward.{built, built-value}
-use Rattle.theorems.proofs.Assigned.{assigned, assigned-value}
-use Rattle.theorems.proofs.Places.{Positive, product-positive}
-use Rattle.theorems.proofs.Adequate.{topsIn, adequate}
+use Rattle.theorems.proofs.Laws.Ops.{sortAt}
+use Rattle.theorems.proofs.Tables.Free.{Free}
+use Rattle.theorems.proofs.Ranges.Chains.{chained-refl, chained-sym, chained-trans}
+use Rattle.theorems.proofs.Ranges.Components.{linked-sym, link-chained}
+use Rattle.theorems.proofs.Ranges.Renaming.{Equivalence}
+use Rattle.theorems.proofs.Elimination.Counts.{count-apps}
+use Rattle.theorems.proofs.Elimination.WellLaid.{eliminated-free, images-length, image-within, image-sort}
+use Rattle.theorems.proofs.Elimination.OfAssignment.{built, built-value}
+use Rattle.theorems.proofs.Elimination.OfInterpretation.{assigned, assigned-value}
+use Rattle.theorems.proofs.Search.Places.{Positive, product-positive}
+use Rattle.theorems.proofs.Ranges.Adequate.{topsIn, adequate}
 use Rattle.theorems.proofs.Accepted.{Accepted, length-nodesAt}
 
 positive-ranks : (J : ℕ → ℕ → Bool) (vs : List ℕ) → Positive (map (rank J) vs)

@@ -9,7 +9,7 @@ use mathlib.Core.Logic.{_↔_, _⊎_, inl, inr}
 use lib.Dec.{eqb, ltb}
 use borrow.Author.Tests.{eq-eqb, eqb-true, ltb-true, ltb-false}
 use Rattle.definitions.specs.Ranges.{howMany, rank}
-use Rattle.theorems.proofs.Tests.{and-intro, and-left, and-right, same-test, split}
+use Rattle.theorems.proofs.Laws.Tests.{and-intro, and-left, and-right, same-test, split}
 
 howMany-same : (f g : ℕ → Bool) → ((i : ℕ) → f i ≡ g i) → (n : ℕ) → howMany f n ≡ howMany g n
 howMany-same f g h zero = refl

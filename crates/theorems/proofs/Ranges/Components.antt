@@ -11,8 +11,8 @@ use borrow.Author.Tests.{eqb-true}
 use Rattle.definitions.specs.Lists.{any}
 use Rattle.definitions.specs.Problem.Node.{Node, node}
 use Rattle.definitions.specs.Ranges.{leaf, links, linked, chained, joined}
-use Rattle.theorems.proofs.Tests.{or-cases, or-left, or-right, and-left, and-right}
-use Rattle.theorems.proofs.Chains.{chained-refl, chained-sym, chained-trans}
+use Rattle.theorems.proofs.Laws.Tests.{or-cases, or-left, or-right, and-left, and-right}
+use Rattle.theorems.proofs.Ranges.Chains.{chained-refl, chained-sym, chained-trans}
 
 -- the least equivalence on the variables below N that has the links
 pub data Joined (link : ℕ → ℕ → Bool) (N : ℕ) : ℕ → ℕ → Type 0 where

@@ -25,7 +25,7 @@ use Rattle.definitions.specs.Elimination.{
   step,
   steps,
 }
-use Rattle.theorems.proofs.Steps.{step-cases}
+use Rattle.theorems.proofs.Elimination.Steps.{step-cases}
 
 -- one list starts another
 abbrev pub Starts : {A : Type 0} → List A → List A → Type 0

@@ -32,10 +32,10 @@ use Rattle.definitions.specs.Elimination.{
   step,
   steps,
 }
-use Rattle.theorems.proofs.Tests.{and-left}
-use Rattle.theorems.proofs.Ops.{app-op}
-use Rattle.theorems.proofs.Steps.{step-cases, step-done, ofOp}
-use Rattle.theorems.proofs.Counts.{count-apps}
+use Rattle.theorems.proofs.Laws.Tests.{and-left}
+use Rattle.theorems.proofs.Laws.Ops.{app-op}
+use Rattle.theorems.proofs.Elimination.Steps.{step-cases, step-done, ofOp}
+use Rattle.theorems.proofs.Elimination.Counts.{count-apps}
 
 -- 0 + 1 + .. + (n - 1)
 abbrev pub below-sum : ℕ → ℕ

@@ -39,7 +39,7 @@ use Rattle.definitions.specs.Problem.Ops.{
 }
 use Rattle.definitions.specs.Logic.{Interpretation, Value, number, truth, numberOf, truthOf, valueAt, numberAt, opValue}
 use Rattle.definitions.specs.Elimination.{nodeOn}
-use Rattle.theorems.proofs.Tests.{and-left, and-right}
+use Rattle.theorems.proofs.Laws.Tests.{and-left, and-right}
 
 -- an application is of op 0 or of op 6
 pub app-op : (op : ℕ) → isApp (opOf op) ≡ true → (op ≡ 0) ⊎ (op ≡ 6)

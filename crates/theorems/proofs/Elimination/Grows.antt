@@ -17,10 +17,10 @@ use Rattle.definitions.specs.Problem.Ops.{Op, apply, choose, equal, negate, bot
 use Rattle.definitions.specs.Problem.Ops.{Sort, term, formula, sortOf, sameSort, arity, operandSorts, operandsRight, fits}
 use Rattle.definitions.specs.Problem.Ops.{sortsOf, countOf, fieldsOf, operandsOf, isApp}
 use Rattle.definitions.specs.Elimination.{App, last, further, condition, choiceOp, choices, variableNode, nodeOn}
-use Rattle.theorems.proofs.Tests.{and-intro, and-left, and-right, split}
-use Rattle.theorems.proofs.Ops.{app-op, app-sorts, sortAt, Sorted, operands-sorted, fields-nodeOn}
-use Rattle.theorems.proofs.Extends.{Starts}
-use Rattle.theorems.proofs.Free.{namesOf, freeRight, Free}
+use Rattle.theorems.proofs.Laws.Tests.{and-intro, and-left, and-right, split}
+use Rattle.theorems.proofs.Laws.Ops.{app-op, app-sorts, sortAt, Sorted, operands-sorted, fields-nodeOn}
+use Rattle.theorems.proofs.Elimination.Extends.{Starts}
+use Rattle.theorems.proofs.Tables.Free.{namesOf, freeRight, Free}
 
 -- an op that is no application names the symbol 0 alone, and its operands do not depend on an arity
 plain-op : (N P ar : ℕ) (o : Op) → isApp o ≡ false → (namesOf N P o ≡ 1) × (operandSorts o ar ≡ operandSorts o 0)

@@ -7,7 +7,7 @@ use mathlib.Core.Logic.{_⊎_, inl, inr}
 use lib.Dec.{eqb, ltb}
 use borrow.Author.Tests.{eq-eqb, ne-eqb, eqb-true, eqb-false, ltb-true, ltb-false}
 use Rattle.definitions.specs.Ranges.{chained}
-use Rattle.theorems.proofs.Tests.{or-cases, or-left, or-right, and-intro, and-left, and-right, eqb-swap}
+use Rattle.theorems.proofs.Laws.Tests.{or-cases, or-left, or-right, and-intro, and-left, and-right, eqb-swap}
 
 module _ (link : ℕ → ℕ → Bool) where
   pub chained-refl : (k u : ℕ) → chained link k u u ≡ true

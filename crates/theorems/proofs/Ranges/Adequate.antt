@@ -15,11 +15,11 @@ use Rattle.definitions.specs.Problem.Ops.{formula}
 use Rattle.definitions.specs.Logic.{Interpretation, truthOf, truthAt, values}
 use Rattle.definitions.specs.Ranges.{linked, rank, sizes}
 use Rattle.definitions.specs.Places.{digitsAt, digitsAfter, assignment}
-use Rattle.theorems.proofs.Ops.{sortAt}
-use Rattle.theorems.proofs.Free.{Free}
-use Rattle.theorems.proofs.Renaming.{Equivalence, renamed, renamed-low, renamed-high}
-use Rattle.theorems.proofs.SmallModel.{agree}
-use Rattle.theorems.proofs.Places.{Within, reach}
+use Rattle.theorems.proofs.Laws.Ops.{sortAt}
+use Rattle.theorems.proofs.Tables.Free.{Free}
+use Rattle.theorems.proofs.Ranges.Renaming.{Equivalence, renamed, renamed-low, renamed-high}
+use Rattle.theorems.proofs.Ranges.SmallModel.{agree}
+use Rattle.theorems.proofs.Search.Places.{Within, reach}
 
 pub length-countFrom : (m n : ℕ) → length (countFrom m n) ≡ n
 length-countFrom m zero = refl

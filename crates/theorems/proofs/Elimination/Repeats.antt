@@ -10,7 +10,7 @@ use lib.Dec.{eqb}
 use borrow.Author.Tests.{eqb-true, eq-eqb}
 use Rattle.definitions.specs.Problem.Node.{Node, node, same}
 use Rattle.definitions.specs.Elimination.{earliest}
-use Rattle.theorems.proofs.Tests.{and-left, and-right, some-same, none≢some}
+use Rattle.theorems.proofs.Laws.Tests.{and-left, and-right, some-same, none≢some}
 
 -- nodes that are the same in all five fields are equal
 same-node : (m n : Node) → same m n ≡ true → m ≡ n

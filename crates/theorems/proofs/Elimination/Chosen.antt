@@ -12,7 +12,7 @@ use Rattle.definitions.specs.Lists.{snoc}
 use Rattle.definitions.specs.Problem.Node.{Node, node, plain}
 use Rattle.definitions.specs.Logic.{Interpretation, Value, number, truth, numberOf, truthOf, numberAt, truthAt, opValue, nodeValue, values}
 use Rattle.definitions.specs.Elimination.{App, last, further, condition, choiceOp, choices}
-use Rattle.theorems.proofs.Grown.{grown-append, length-grown, grown-prefix}
+use Rattle.theorems.proofs.Laws.Grown.{grown-append, length-grown, grown-prefix}
 
 -- two lists of arguments are equal, member by member
 abbrev pub sameList : List ℕ → List ℕ → Bool

@@ -16,12 +16,12 @@ use Rattle.definitions.specs.Problem.Ops.{opOf, isApp}
 use Rattle.definitions.specs.Problem.Check.{firstWrong}
 use Rattle.definitions.specs.Logic.{Interpretation, Value, number, truth, numberOf, truthOf, valueAt, numberAt, opValue, values}
 use Rattle.definitions.specs.Elimination.{App, State, begin, imagesOf, sameSymbol, earliest, appStep, copy, step, steps}
-use Rattle.theorems.proofs.Tests.{and-left}
-use Rattle.theorems.proofs.Chosen.{chosen, sameList, pickValue, Kind}
-use Rattle.theorems.proofs.Ops.{app-op}
-use Rattle.theorems.proofs.Steps.{step-cases, steps-keep}
-use Rattle.theorems.proofs.Variables.{variableValue, variable-kind, app-kind, as-number, as-truth, same-list, same-list-self}
-use Rattle.theorems.proofs.Meaning.{Accord, SameAll, qs, qsW, own, mean, image-value}
+use Rattle.theorems.proofs.Laws.Tests.{and-left}
+use Rattle.theorems.proofs.Elimination.Chosen.{chosen, sameList, pickValue, Kind}
+use Rattle.theorems.proofs.Laws.Ops.{app-op}
+use Rattle.theorems.proofs.Elimination.Steps.{step-cases, steps-keep}
+use Rattle.theorems.proofs.Elimination.Variables.{variableValue, variable-kind, app-kind, as-number, as-truth, same-list, same-list-self}
+use Rattle.theorems.proofs.Elimination.Images.{Accord, SameAll, qs, qsW, own, mean, image-value}
 
 abbrev pub isSym : ℕ → ℕ → App → Bool
 isSym op f app = eqb (app .of .op) op && eqb (app .of .sym) f
@@ -54,14 +54,14 @@ module _ (A : Interpretation) (symbols : List ℕ) (T : List Node) (right : firs
   abbrev F : State
   F = steps symbols begin T
 
-  abbrev given : App → List ℕ
+  abbrev pub given : App → List ℕ
   given j = map (numberAt (values A [] (F .out))) (imagesOf symbols (F .images) (j .of))
 
   abbrev var : App → Value
   var j = variableValue A (j .of .op) (j .var)
 
   -- the interpretation that the assignment comes from
-  pub built : Interpretation
+  unfoldable pub built : Interpretation
   built =
       record {
         function = λ f xs. numberOf (chosen given var xs (number 0) (keep (isSym 0 f) (F .apps)));

@@ -31,9 +31,9 @@ use Rattle.definitions.specs.Problem.Ops.{
 use Rattle.definitions.specs.Problem.Check.{firstWrong}
 use Rattle.definitions.specs.Logic.{Interpretation, Value, number, numberOf, valueAt, numberAt, opValue, nodeValue, values}
 use Rattle.definitions.specs.Elimination.{nodeOn}
-use Rattle.theorems.proofs.Tests.{and-right, none≢some}
-use Rattle.theorems.proofs.Grown.{grown-at}
-use Rattle.theorems.proofs.Ops.{
+use Rattle.theorems.proofs.Laws.Tests.{and-right, none≢some}
+use Rattle.theorems.proofs.Laws.Grown.{grown-at}
+use Rattle.theorems.proofs.Laws.Ops.{
   Alike,
   AllBelow,
   Sorted,

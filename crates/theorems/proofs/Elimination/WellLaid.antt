@@ -17,15 +17,15 @@ use Rattle.definitions.specs.Problem.Ops.{opOf, isApp, arity, Sort, sortOf, ope
 use Rattle.definitions.specs.Problem.Check.{firstWrong}
 use Rattle.definitions.specs.Elimination.{App, State, begin, imagesOf, last, sameSymbol, nextVar, variableNode, nodeOn, earliest}
 use Rattle.definitions.specs.Elimination.{applied, addApp, repeat, appStep, copy, step, steps}
-use Rattle.theorems.proofs.Tests.{and-left, and-right, split}
-use Rattle.theorems.proofs.Ops.{sortAt}
-use Rattle.theorems.proofs.Fixed.{right-at, right-fits}
-use Rattle.theorems.proofs.Free.{Free}
-use Rattle.theorems.proofs.Extends.{Starts}
-use Rattle.theorems.proofs.Repeats.{found, not-found}
-use Rattle.theorems.proofs.Variables.{no-operands, count-zero, take-many}
-use Rattle.theorems.proofs.Grows.{Stands, Terms, Grows, KnowsAll, count, node-kept, node-sort, stands-kept, stays, stays-terms}
-use Rattle.theorems.proofs.Grows.{join, lay-variable, lay-copy, app-terms, choices-grow}
+use Rattle.theorems.proofs.Laws.Tests.{and-left, and-right, split}
+use Rattle.theorems.proofs.Laws.Ops.{sortAt}
+use Rattle.theorems.proofs.Tables.Fixed.{right-at, right-fits}
+use Rattle.theorems.proofs.Tables.Free.{Free}
+use Rattle.theorems.proofs.Elimination.Extends.{Starts}
+use Rattle.theorems.proofs.Elimination.Repeats.{found, not-found}
+use Rattle.theorems.proofs.Elimination.Variables.{no-operands, count-zero, take-many}
+use Rattle.theorems.proofs.Elimination.Grows.{Stands, Terms, Grows, KnowsAll, count, node-kept, node-sort, stands-kept, stays, stays-terms}
+use Rattle.theorems.proofs.Elimination.Grows.{join, lay-variable, lay-copy, app-terms, choices-grow}
 
 module _ (symbols : List ℕ) (T : List Node) (right : firstWrong symbols [] T ≡ none) where
   -- a distinct application among the nodes that have these images, in this table

@@ -14,9 +14,9 @@ use Rattle.definitions.specs.Problem.Node.{Node}
 use Rattle.definitions.specs.Problem.Ops.{opOf, Sort, fits, countOf, fieldsOf, isApp}
 use Rattle.definitions.specs.Logic.{Interpretation, Value, number, truth, numberOf, truthOf, numberAt, opValue, nodeValue}
 use Rattle.definitions.specs.Elimination.{variableNode}
-use Rattle.theorems.proofs.Tests.{and-left, and-right}
-use Rattle.theorems.proofs.Ops.{app-op}
-use Rattle.theorems.proofs.Chosen.{sameList, Kind}
+use Rattle.theorems.proofs.Laws.Tests.{and-left, and-right}
+use Rattle.theorems.proofs.Laws.Ops.{app-op}
+use Rattle.theorems.proofs.Elimination.Chosen.{sameList, Kind}
 
 pub same-list : (ps qs : List ℕ) → sameList ps qs ≡ true → ps ≡ qs
 same-list [] [] e = refl

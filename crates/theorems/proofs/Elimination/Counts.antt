@@ -15,10 +15,10 @@ use Rattle.definitions.specs.Problem.Node.{Node, same}
 use Rattle.definitions.specs.Problem.Ops.{opOf, isApp}
 use Rattle.definitions.specs.Problem.Check.{distinct, functionsIn, predicatesIn}
 use Rattle.definitions.specs.Elimination.{App, State, begin, earliest, step, steps}
-use Rattle.theorems.proofs.Tests.{none≢some}
-use Rattle.theorems.proofs.Ops.{app-op}
-use Rattle.theorems.proofs.Steps.{step-cases, step-done, step-images, ofOp}
-use Rattle.theorems.proofs.Backward.{AllApp, steps-apps}
+use Rattle.theorems.proofs.Laws.Tests.{none≢some}
+use Rattle.theorems.proofs.Laws.Ops.{app-op}
+use Rattle.theorems.proofs.Elimination.Steps.{step-cases, step-done, step-images, ofOp}
+use Rattle.theorems.proofs.Elimination.OfAssignment.{AllApp, steps-apps}
 
 -- `earliest` finds nothing exactly where no earlier node is the same
 pub earliest-none : (n : Node) (ms : List Node) (is : List ℕ) → length is ≡ length ms → earliest n ms is ≡ none

@@ -27,12 +27,12 @@ use Rattle.definitions.specs.Problem.Ops.{
 }
 use Rattle.definitions.specs.Logic.{Interpretation, Value, number, truth, numberOf, truthOf, valueAt, numberAt, truthAt, opValue, values}
 use Rattle.definitions.specs.Ranges.{Variables, noVariable, opLeaves, nodeLeaves, leaf, links, linked}
-use Rattle.theorems.proofs.Tests.{or-left, or-right, and-intro, same-test, split}
-use Rattle.theorems.proofs.Ops.{Alike, Sorted, operands-sorted, op-alike, sortAt}
-use Rattle.theorems.proofs.Grown.{grown-at}
-use Rattle.theorems.proofs.Free.{Free, namesOf, free-named, free-fits, free-fixed}
-use Rattle.theorems.proofs.Components.{any-at}
-use Rattle.theorems.proofs.Renaming.{Equivalence, renamed, renamed-same}
+use Rattle.theorems.proofs.Laws.Tests.{or-left, or-right, and-intro, same-test, split}
+use Rattle.theorems.proofs.Laws.Ops.{Alike, Sorted, operands-sorted, op-alike, sortAt}
+use Rattle.theorems.proofs.Laws.Grown.{grown-at}
+use Rattle.theorems.proofs.Tables.Free.{Free, namesOf, free-named, free-fits, free-fixed}
+use Rattle.theorems.proofs.Ranges.Components.{any-at}
+use Rattle.theorems.proofs.Ranges.Renaming.{Equivalence, renamed, renamed-same}
 
 -- all of these sorts are of formulas
 abbrev AllFormulas : List Sort → Type 0

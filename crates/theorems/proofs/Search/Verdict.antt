@@ -10,7 +10,7 @@ use mathlib.Core.Option.{Option, none, some}
 use lib.Dec.{leb}
 use borrow.Author.Tests.{leb-true, leb-false}
 use Rattle.definitions.specs.Verdict.{Outcome, valid, falsified, stopped, firstFalse, within, outcomeAt, outcome}
-use Rattle.theorems.proofs.Tests.{split}
+use Rattle.theorems.proofs.Laws.Tests.{split}
 
 -- the places 1 to n are true
 abbrev pub AllTrue : (ℕ → Bool) → ℕ → Type 0

@@ -38,14 +38,14 @@ use Rattle.definitions.specs.Elimination.{
   steps,
 }
 use Rattle.definitions.specs.Elimination.{nextVar, variableNode}
-use Rattle.theorems.proofs.Steps.{step-cases}
-use Rattle.theorems.proofs.Extends.{Starts, Ext, steps-ext}
-use Rattle.theorems.proofs.Tests.{and-left, and-right, split}
-use Rattle.theorems.proofs.Chosen.{At, Ats, Laid, kept, stays, fresh, last-snoc, laid-snoc, sameList, pickValue, Kind, KnowsAll, Knows, chosen, choices-laid, join, staysAll}
-use Rattle.theorems.proofs.Fixed.{fixed, Terms, terms-more, operands-terms, copy-value, right-at, right-below, right-fits}
-use Rattle.theorems.proofs.Ops.{AllBelow}
-use Rattle.theorems.proofs.Repeats.{Found, found, not-found}
-use Rattle.theorems.proofs.Variables.{variableValue, variable-kind, variable-value, no-operands, count-zero, take-many}
+use Rattle.theorems.proofs.Elimination.Steps.{step-cases}
+use Rattle.theorems.proofs.Elimination.Extends.{Starts, Ext, steps-ext}
+use Rattle.theorems.proofs.Laws.Tests.{and-left, and-right, split}
+use Rattle.theorems.proofs.Elimination.Chosen.{At, Ats, Laid, kept, stays, fresh, last-snoc, laid-snoc, sameList, pickValue, Kind, KnowsAll, Knows, chosen, choices-laid, join, staysAll}
+use Rattle.theorems.proofs.Tables.Fixed.{fixed, Terms, terms-more, operands-terms, copy-value, right-at, right-below, right-fits}
+use Rattle.theorems.proofs.Laws.Ops.{AllBelow}
+use Rattle.theorems.proofs.Elimination.Repeats.{Found, found, not-found}
+use Rattle.theorems.proofs.Elimination.Variables.{variableValue, variable-kind, variable-value, no-operands, count-zero, take-many}
 
 module _ (I A : Interpretation) (symbols : List ℕ) (T : List Node) (right : firstWrong symbols [] T ≡ none) where
   abbrev pub vals : List Value

@@ -31,9 +31,9 @@ use Rattle.definitions.specs.Problem.Ops.{
   operandsOf,
 }
 use Rattle.definitions.specs.Logic.{Interpretation, valueAt, nodeValue, values}
-use Rattle.theorems.proofs.Tests.{and-left, and-right}
-use Rattle.theorems.proofs.Ops.{AllBelow, fits-below, sortAt}
-use Rattle.theorems.proofs.Fixed.{value-fixed}
+use Rattle.theorems.proofs.Laws.Tests.{and-left, and-right}
+use Rattle.theorems.proofs.Laws.Ops.{AllBelow, fits-below, sortAt}
+use Rattle.theorems.proofs.Tables.Fixed.{value-fixed}
 
 -- how many symbols a node of an op may name: the variables, the truth variables, and else 0 alone
 abbrev pub namesOf : ℕ → ℕ → Op → ℕ

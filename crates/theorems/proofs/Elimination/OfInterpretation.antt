@@ -16,13 +16,13 @@ use Rattle.definitions.specs.Problem.Ops.{opOf, isApp}
 use Rattle.definitions.specs.Problem.Check.{firstWrong}
 use Rattle.definitions.specs.Logic.{Interpretation, Value, number, truth, numberOf, truthOf, valueAt, numberAt, opValue, values}
 use Rattle.definitions.specs.Elimination.{App, State, begin, imagesOf, sameSymbol, sameOp, nextVar, earliest, appStep, copy, step, steps}
-use Rattle.theorems.proofs.Tests.{and-left, and-right}
-use Rattle.theorems.proofs.Chosen.{chosen, sameList, pickValue, Kind}
-use Rattle.theorems.proofs.Ops.{app-op, app-alike}
-use Rattle.theorems.proofs.Steps.{step-cases, steps-keep}
-use Rattle.theorems.proofs.Variables.{variableValue, variable-kind, app-kind, as-number, as-truth, same-list, same-list-self}
-use Rattle.theorems.proofs.Meaning.{Accord, SameAll, qs, own, mean, vals, image-value}
-use Rattle.theorems.proofs.Backward.{AllApp, steps-apps, keep-append}
+use Rattle.theorems.proofs.Laws.Tests.{and-left, and-right}
+use Rattle.theorems.proofs.Elimination.Chosen.{chosen, sameList, pickValue, Kind}
+use Rattle.theorems.proofs.Laws.Ops.{app-op, app-alike}
+use Rattle.theorems.proofs.Elimination.Steps.{step-cases, steps-keep}
+use Rattle.theorems.proofs.Elimination.Variables.{variableValue, variable-kind, app-kind, as-number, as-truth, same-list, same-list-self}
+use Rattle.theorems.proofs.Elimination.Images.{Accord, SameAll, qs, own, mean, vals, image-value}
+use Rattle.theorems.proofs.Elimination.OfAssignment.{AllApp, steps-apps, keep-append}
 
 -- each application's variable number is the count of the applications of its op before it
 abbrev Numbered : List App → Type 0

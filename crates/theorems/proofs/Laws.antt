@@ -1,0 +1,4 @@
+-- Small laws that the other files cite: tests and orders, the ops, what grows along a table.
+pub mod Tests
+pub mod Ops
+pub mod Grown

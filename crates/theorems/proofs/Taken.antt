@@ -1,0 +1,98 @@
+-- What an answer of decide says of the input: which refusals did not apply, and which outcome the search has. Assumes nothing.
+use mathlib.Core.Path.{_≡_, refl, sym, ap, _∙_, subst}
+use Prim.Native.Nat.{ℕ, _^_, _≤_}
+use native.Mathlib.Omega.{arith}
+use mathlib.Core.Bool.{Bool, true, false}
+use mathlib.Core.List.{List, [], _∷_}
+use mathlib.Core.Option.{Option, none, some}
+use lib.ListN.{length}
+use lib.Dec.{ltb}
+use borrow.Author.Tests.{ltb-false}
+use Rattle.definitions.specs.Problem.Check.{Refused, refuseIf, refusalOf}
+use Rattle.definitions.specs.Ranges.{product}
+use Rattle.definitions.specs.Verdict.{Outcome, valid, falsified, stopped, outcomeOf}
+use Rattle.definitions.specs.Witness.{witnessAt}
+use Rattle.definitions.specs.Operations.Answers.{
+  shortWork,
+  shortWitness,
+  bigProduct,
+  eliminateRefusal,
+  buffersRefusal,
+  decideRefusal,
+  Answer,
+  refused,
+  given,
+  unless,
+  Verdict,
+  isValid,
+  isFalsified,
+  isStopped,
+  Decided,
+  decided,
+  decideAnswer,
+}
+use Rattle.theorems.proofs.Accepted.{Accepted, accepted, all-none, if-none}
+
+-- the input is taken: no refusal applies
+pub record Taken (s : List ℕ) (work room : ℕ) : Type 0 where
+  pub problem : Accepted s
+  pub work-long : 21056 ≤ work
+  pub room-long : 206 ≤ room
+  pub product-small : product s ≤ 10 ^ 18
+
+pub taken : (s : List ℕ) (work room : ℕ) → decideRefusal s work room ≡ none → Taken s work room
+unfolding decideRefusal buffersRefusal eliminateRefusal
+taken s work room e =
+    let c = all-none (buffersRefusal s work room ∷ bigProduct s ∷ []) e in
+    let b = all-none (eliminateRefusal s work ∷ shortWitness room ∷ []) (c .0) in
+    let a = all-none (refusalOf s ∷ shortWork work ∷ []) (b .0) in
+    record {
+      problem = accepted s (a .0);
+      work-long = ltb-false work 21056 (if-none (ltb work 21056) 11 (a .1 .0));
+      room-long = ltb-false room 206 (if-none (ltb room 206) 12 (b .1 .0));
+      product-small = ltb-false (10 ^ 18) (product s) (if-none (ltb (10 ^ 18) (product s)) 13 (c .1 .0));
+    }
+
+-- values are answered only where nothing refuses
+pub given-taken : {A : Type 0} (o : Option Refused) (v w : A) → given w ≡ unless o v → (o ≡ none) × (w ≡ v)
+given-taken none v w e = (refl, cc)
+given-taken (some r) v w e = absurd (let z : _≡_ {A = ℕ} 0 1 = cc in omega arith)
+
+-- the outcome with a verdict and a count
+abbrev pub outcomeWith : Verdict → ℕ → Outcome
+outcomeWith isValid tried = valid tried
+outcomeWith isFalsified tried = falsified tried
+outcomeWith isStopped tried = stopped tried
+
+decided-outcome : (s : List ℕ) (o : Outcome) → o ≡ outcomeWith (decided s o .verdict) (decided s o .tried)
+decided-outcome s (valid t) = refl
+decided-outcome s (falsified t) = refl
+decided-outcome s (stopped t) = refl
+
+decided-product : (s : List ℕ) (o : Outcome) → decided s o .product ≡ product s
+decided-product s (valid t) = refl
+decided-product s (falsified t) = refl
+decided-product s (stopped t) = refl
+
+-- an answer that is no refusal has the outcome of the search, and the product
+pub record Answered (s : List ℕ) (budget work room : ℕ) (d : Decided) : Type 0 where
+  pub input : Taken s work room
+  pub outcome : outcomeOf s budget ≡ outcomeWith (d .verdict) (d .tried)
+  pub product-is : d .product ≡ product s
+
+pub answered : (s : List ℕ) (budget work room : ℕ) (d : Decided) → given d ≡ decideAnswer s budget work room → Answered s budget work room d
+unfolding decideAnswer
+answered s budget work room d e =
+    let o = outcomeOf s budget in
+    let g = given-taken (decideRefusal s work room) (decided s o) d e in
+    record {
+      input = taken s work room (g .0);
+      outcome = decided-outcome s o ∙ ap (λ (x : Decided). outcomeWith (x .verdict) (x .tried)) (sym (g .1));
+      product-is = ap (λ (x : Decided). x .product) (g .1) ∙ decided-product s o;
+    }
+
+-- and the other way round: a taken input is answered with its outcome
+pub answers : (s : List ℕ) (budget work room : ℕ) → decideRefusal s work room ≡ none
+    → decideAnswer s budget work room ≡ given (decided s (outcomeOf s budget))
+unfolding decideAnswer
+answers s budget work room e = ap (λ (o : Option Refused). unless o (decided s (outcomeOf s budget))) e

@@ -1,0 +1,3 @@
+-- The witness read back from its bytes.
+pub mod ReadBack
+pub mod Tables
