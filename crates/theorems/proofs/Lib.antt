@@ -11,3 +11,5 @@ pub mod Fits
 pub mod Exactly
 pub mod Taken
 pub mod Unique
+pub mod Decided
+pub mod Top

@@ -83,10 +83,10 @@ module _ (s : List ℕ) (ok : Accepted s) where
   P = predicatesIn T
 
   -- the last problem node
-  abbrev asked : ℕ
+  abbrev pub asked : ℕ
   asked = length T - 1
 
-  asked-below : asked < length T
+  pub asked-below : asked < length T
   asked-below = let e : length T ≡ nodeCount s = length-nodesAt s (8 + symbolCount s) (nodeCount s) in let h = ok .some-nodes in omega arith
 
   -- the function-free table is well formed, with a variable for each distinct application
@@ -96,7 +96,7 @@ module _ (s : List ℕ) (ok : Accepted s) where
       subst₂ (λ (n p : ℕ). Free n p (tableOf s)) (count-apps (symbolsOf s) 0 refl T) (count-apps (symbolsOf s) 6 refl T)
       (eliminated-free (symbolsOf s) T (ok .nodes-right))
 
-  root-image : rootOf (eliminated s) ≡ imageOf s asked
+  pub root-image : rootOf (eliminated s) ≡ imageOf s asked
   unfolding eliminated
   root-image = ap (λ (n : ℕ). imageOf s (n - 1)) (images-length (symbolsOf s) T (ok .nodes-right))
 

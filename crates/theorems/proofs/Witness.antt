@@ -1,3 +1,4 @@
 -- The witness read back from its bytes.
 pub mod ReadBack
 pub mod Tables
+pub mod Falsifies

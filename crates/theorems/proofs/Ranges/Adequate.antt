@@ -66,9 +66,12 @@ bit-one : (b : Bool) → eqb (bit b) 1 ≡ b
 bit-one true = refl
 bit-one false = refl
 
--- the tops of N variables in given classes
+-- the top of a variable in given classes, and the tops of N variables
+abbrev pub topIn : (ℕ → ℕ → Bool) → ℕ → ℕ
+topIn J v = rank J v
+
 abbrev pub topsIn : (ℕ → ℕ → Bool) → ℕ → List ℕ
-topsIn J N = map (rank J) (below N)
+topsIn J N = map (topIn J) (below N)
 
 module _
     (t : List Node)
@@ -97,7 +100,7 @@ module _
   digits-within : Within (sizes (topsIn J N) P) digits
   digits-within =
       within-append (topsIn J N) numberDigits (replicate P 2) truthDigits
-      (within-from (rank J) (λ v. pred (renamed J a v)) 0 N
+      (within-from (topIn J) (λ v. pred (renamed J a v)) 0 N
       (λ v l. let low = renamed-low J N E a v in let high = renamed-high J N E a v (omega arith) in omega arith))
       (within-bits (λ v. A .predicate v []) 0 P)
 
