@@ -112,7 +112,7 @@ free-fits-bytes N P t free hn hp l k h =
     let e = length-take-le k t (omega arith) in
     record { op-fits = omega arith; sym-fits = omega arith; a-fits = omega arith; b-fits = omega arith; c-fits = omega arith }
 
-length-tableBytes : (t : List Node) → length (tableBytes t) ≡ 8 * length t
+pub length-tableBytes : (t : List Node) → length (tableBytes t) ≡ 8 * length t
 length-tableBytes [] = refl
 length-tableBytes (n ∷ t) = let e = length-tableBytes t in omega (arith, length-append (nodeBytes n) (tableBytes t))
 

@@ -55,7 +55,7 @@ snoc-length : {A : Type 0} (xs : List A) (x : A) → length (snoc xs x) ≡ suc 
 snoc-length xs x = omega (arith, length-append xs (x ∷ []))
 
 -- a stronger test keeps no more
-keep-fewer : {A : Type 0} (f g : A → Bool) → ((x : A) → f x ≡ true → g x ≡ true) → (xs : List A)
+pub keep-fewer : {A : Type 0} (f g : A → Bool) → ((x : A) → f x ≡ true → g x ≡ true) → (xs : List A)
     → length (keep f xs) ≤ length (keep g xs)
 keep-fewer f g h [] = omega arith
 keep-fewer f g h (x ∷ xs) = go (f x) (g x) (h x) (keep-fewer f g h xs)
@@ -118,7 +118,7 @@ applied-length symbols st n =
     omega arith
 
 -- one more distinct application allows six nodes for each earlier one of its op
-besides-more : (app : App) (apps : List App) → isApp (opOf (app .of .op)) ≡ true
+pub besides-more : (app : App) (apps : List App) → isApp (opOf (app .of .op)) ≡ true
     → besides (app ∷ apps) ≡ 6 * length (ofOp (app .of .op) apps) + besides apps
 besides-more app apps p = go (app .of .op) (app-op (app .of .op) p)
   where
@@ -149,11 +149,16 @@ length-from symbols (n ∷ ns) st h =
     let done = ap (length {A = Node}) (step-done symbols st n) ∙ snoc-length (st .done) n in
     omega (arith, length-from symbols ns (step symbols st n) (length-step symbols n st h))
 
--- 256 + 6 * (0 + .. + 23) + 6 * (0 + .. + 15) = 2632
-pub table-bound : (symbols : List ℕ) (T : List Node) → length T ≤ 256 → functionsIn T ≤ 24 → predicatesIn T ≤ 16
-    → length (steps symbols begin T .out) ≤ 2632
-table-bound symbols T h f p =
+-- 6 * (0 + .. + 23) + 6 * (0 + .. + 15) = 2376
+pub besides-few : (symbols : List ℕ) (T : List Node) → functionsIn T ≤ 24 → predicatesIn T ≤ 16
+    → besides (steps symbols begin T .apps) ≤ 2376
+besides-few symbols T f p =
     let apps = steps symbols begin T .apps in
     let functions = below-sum-mono (length (ofOp 0 apps)) 24 (omega (arith, count-apps symbols 0 refl T)) in
     let predicates = below-sum-mono (length (ofOp 6 apps)) 16 (omega (arith, count-apps symbols 6 refl T)) in
-    omega (arith, length-from symbols T begin (omega arith))
+    omega arith
+
+-- 256 + 2376 = 2632
+pub table-bound : (symbols : List ℕ) (T : List Node) → length T ≤ 256 → functionsIn T ≤ 24 → predicatesIn T ≤ 16
+    → length (steps symbols begin T .out) ≤ 2632
+table-bound symbols T h f p = omega (arith, besides-few symbols T f p, length-from symbols T begin (omega arith))

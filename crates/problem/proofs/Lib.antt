@@ -1,0 +1,3 @@
+pub mod Stages
+pub mod NodeLaws
+pub mod Scans

@@ -1,0 +1,26 @@
+// Bytes and two-byte numbers of a problem.
+ghost use mathlib.Core.Path.{_≡_};
+ghost use Prim.Native.Nat.{_+_, _<_};
+ghost use lib.ListN.{length};
+ghost use Rattle.definitions.specs.Bytes.{twoAt};
+
+// What a search finds: a number, or nothing.
+pub enum Found {
+    At(usize),
+    Nothing,
+}
+
+pub fn wide(x: u8) -> usize
+    ensures { λ r. ⌜ (r ≡ x) × (r < 256) ⌝ }
+{
+    x as usize
+}
+
+pub fn two_at(s: &[u8], i: usize) -> usize
+    requires { ⌜ i + 1 < length (now s) ⌝ }
+    ensures { λ r. ⌜ (r ≡ twoAt (now (s .entry)) i) × (r < 65536) ⌝ }
+{
+    let low = wide(s[i]);
+    let high = wide(s[i + 1]);
+    low + 256 * high
+}
