@@ -56,7 +56,7 @@ pub record FitsNode (n : Node) : Type 0 where
   pub c-fits : n .c < 65536
 
 -- a node that fits has one of the ops 0 to 9
-known-op : (op : ℕ) (earlier : List Node) (ks : List ℕ) → fits earlier (operandSorts (opOf op) 0) ks ≡ true → op < 10
+pub known-op : (op : ℕ) (earlier : List Node) (ks : List ℕ) → fits earlier (operandSorts (opOf op) 0) ks ≡ true → op < 10
 known-op zero earlier ks e = omega arith
 known-op (suc zero) earlier ks e = omega arith
 known-op (suc (suc zero)) earlier ks e = omega arith

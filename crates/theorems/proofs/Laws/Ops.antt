@@ -112,6 +112,26 @@ op-number I vs o n xs = by o
     by select e = absurd (formula≢term e)
     by unknown e = absurd (formula≢term e)
 
+pub op-truth : (I : Interpretation) (vs : List Value) (o : Op) (n : Node) (xs : List ℕ) → sortOf o ≡ formula
+    → opValue I vs o n xs ≡ truth (truthOf (opValue I vs o n xs))
+op-truth I vs o n xs = by o
+  where
+    term≢formula : term ≡ formula → ⊥
+    term≢formula e = let z : _≡_ {A = ℕ} 0 1 = cc in omega arith
+
+    by : (o : Op) → sortOf o ≡ formula → opValue I vs o n xs ≡ truth (truthOf (opValue I vs o n xs))
+    by apply e = absurd (term≢formula e)
+    by choose e = absurd (term≢formula e)
+    by equal e = refl
+    by negate e = refl
+    by both e = refl
+    by either e = refl
+    by test e = refl
+    by verum e = refl
+    by falsum e = refl
+    by select e = refl
+    by unknown e = refl
+
 pub same-sort : (s r : Sort) → sameSort s r ≡ true → s ≡ r
 same-sort term term e = refl
 same-sort term formula e = absurd (false≢true e)

@@ -1,0 +1,11 @@
+pub mod Laying
+pub mod Pairwise
+pub mod Prefix
+pub mod StateLaws
+pub mod Repeating
+pub mod Operands
+pub mod Stepping
+pub mod Arguments
+pub mod Choosing
+pub mod Counting
+pub mod Promising

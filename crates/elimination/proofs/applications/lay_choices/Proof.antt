@@ -1,0 +1,292 @@
+-- `lay_choices` looks at the applications from the latest on, and lays a choice for each of the symbol. The loop's invariant: what
+-- is laid so far, followed by the choices for the applications still to come, is all of them. Assumes nothing.
+use borrow.Author.Needs.{needs}
+use mathlib.Core.Path.{_≡_, refl, sym, ap, _∙_, subst}
+use Prim.Native.Nat.{ℕ, _+_, _*_, _-_, _≤_, _<_}
+use native.Mathlib.Omega.{arith}
+use mathlib.Core.Bool.{true}
+use mathlib.Core.List.{List}
+use mathlib.Core.Logic.{⊎-elim}
+use lib.ListN.{length, getD, take}
+use Rattle.definitions.specs.Lists.{keep}
+use Rattle.definitions.specs.Problem.Node.{Node, node, nodeAt}
+use Rattle.definitions.specs.Problem.Ops.{opOf, isApp, arity}
+use Rattle.definitions.specs.Problem.Check.{nodeCount, symbolsOf, nodesOf}
+use Rattle.definitions.specs.Elimination.{App, choiceOp, sameSymbol}
+use Rattle.problem.proofs.NodeLaws.{node-stands}
+use Rattle.elimination.specs.State.{stateAt, appAt, oneSymbol}
+use Rattle.elimination.proofs.Laying.{lays-as}
+use Rattle.elimination.proofs.Prefix.{apps-few, room}
+use Rattle.elimination.proofs.Stepping.{next-app}
+use Rattle.elimination.proofs.Arguments.{few-arguments, arguments-read, arguments-given, own-small}
+use Rattle.elimination.proofs.Choosing.{Choosing, args, chosen-one, choice-other, op-same, symbol-same}
+use Rattle.elimination.proofs.Choosing.{choosing-first, choosing-last, choosing-other, choosing-room, choosing-same}
+use Rattle.elimination.proofs.applications.lay_choices.Statement.{statement}
+use Rattle.elimination.proofs.applications.lay_choices.Tie as tie
+
+abbrev Inv-loop : tie.InvT-loop
+Inv-loop problem symbols nodes k work₀ images apps owns here arity xs choice at₀ i₀ work at i =
+    Choosing problem k work₀ at₀ work at i
+
+abbrev μ-loop : tie.MeasureT-loop
+μ-loop problem symbols nodes k work₀ images apps owns here arity xs choice at₀ i₀ work at i = i
+
+node-at-requires : tie.Need-node-at-requires Inv-loop μ-loop
+node-at-requires c κs = search needs
+
+add-wide : tie.Need-add-wide Inv-loop μ-loop
+add-wide c = search needs
+
+shared-slice-read-wide : tie.Need-shared-slice-read-wide Inv-loop μ-loop
+shared-slice-read-wide c = search needs
+
+wide-requires : tie.Need-wide-requires Inv-loop μ-loop
+wide-requires c κs = search needs
+
+arity-of-requires : tie.Need-arity-of-requires Inv-loop μ-loop
+arity-of-requires c κs = search needs
+
+slice-aggregate-images-of : tie.Need-slice-aggregate-images-of Inv-loop μ-loop
+slice-aggregate-images-of c = search needs
+
+images-of-requires : tie.Need-images-of-requires Inv-loop μ-loop
+images-of-requires c κs = search needs
+
+-- node k has been read, with the images of its operands
+module _ (c : tie.After-images-of Inv-loop μ-loop) where
+  abbrev entry : tie.Start Inv-loop μ-loop
+  entry = c .before .before .before .before .before .before .before .before .before .before .before
+
+  abbrev bytes : List ℕ
+  bytes = entry .args .problem .now
+
+  abbrev k : ℕ
+  k = entry .args .k
+
+  abbrev theNode : Node
+  theNode = node (nodesOf bytes) k
+
+  within : k < nodeCount bytes
+  within = omega (arith, entry .pre .1 .nodes-are)
+
+  stands : theNode ≡ nodeAt bytes (c .before .before .before .before .before .node-at .result)
+  stands = node-stands (entry .pre .1) k _ (c .before .before .before .before .before .node-at .ensures) (entry .pre .2)
+
+  arity-read : c .before .before .arity-of .result ≡ arity (symbolsOf bytes) (theNode .sym)
+  arity-read =
+      c .before .before .arity-of .ensures .0
+      ∙ ap (arity (symbolsOf bytes)) (c .before .before .before .wide .ensures .0 ∙ ap (λ (n : Node). n .sym) (sym stands))
+
+  has-room : entry .args .before .nodes + 1 + 6 * length (keep (sameSymbol theNode) (stateAt bytes k .apps)) ≤ 2632
+  has-room =
+      let next = next-app bytes (entry .pre .0) k within (entry .pre .5) (entry .pre .6) in
+      omega (arith, entry .pre .4 .nodes-are, room bytes (entry .pre .0) k within theNode (entry .pre .5) next)
+
+shared-slice-read-if1 : tie.Need-shared-slice-read-if1 Inv-loop μ-loop
+shared-slice-read-if1 c = search needs
+
+choice-read : (c : tie.Joined1 Inv-loop μ-loop) → c .if1 .choice ≡ choiceOp (theNode (c .before .before) .op)
+choice-read c =
+    let op-read = ap (λ (n : Node). n .op) (stands (c .before .before)) in
+    ⊎-elim (λ w. w .1 ∙ ap choiceOp (sym (op-read ∙ w .0 .taken)))
+    (λ w. w .1 ∙ sym (choice-other _ (λ e. w .0 .left (sym op-read ∙ e)))) (c .if1 .came)
+
+add-at : tie.Need-add-at Inv-loop μ-loop
+add-at c = omega (arith, has-room (c .before .before .before))
+
+loop-holds : tie.Need-loop-holds Inv-loop μ-loop
+loop-holds c =
+    let read = c .before .before .before in
+    choosing-first _ _ _ _ _ (entry read .pre .4 .count-is) (has-room read)
+
+sub-i : tie.Need-sub-i Inv-loop μ-loop
+sub-i c = search needs
+
+-- in a turn: the application looked at, and its node
+module _ (c : tie.In-loop Inv-loop μ-loop) where
+  abbrev read : tie.After-images-of Inv-loop μ-loop
+  read = c .before .before .before .before .before
+
+  abbrev start : tie.Start Inv-loop μ-loop
+  start = entry read
+
+  abbrev i : ℕ
+  i = c .before .loop .i - 1
+
+  abbrev app : App
+  app = appAt (bytes read) (k read) i
+
+  abbrev q : ℕ
+  q = getD (start .args .before .apps) i 0
+
+  i-few : i < start .args .before .count
+  i-few = omega (arith, c .before .loop .inv .few, start .pre .4 .count-is, c .loop-test .taken)
+
+  i-small : i < 40
+  i-small =
+      let few = apps-few (bytes read) (start .pre .0) (k read) (omega (arith, within read)) in
+      omega (arith, i-few, start .pre .4 .count-is)
+
+  q-before : q < k read
+  q-before = start .pre .4 .app-before i i-few
+
+  q-is : node (nodesOf (bytes read)) q ≡ app .of
+  q-is = start .pre .4 .app-of i i-few
+
+  tested : oneSymbol (node (nodesOf (bytes read)) q) (theNode read) ≡ sameSymbol (theNode read) app
+  tested = ap (λ (m : Node). oneSymbol m (theNode read)) q-is
+
+mul-q : tie.Need-mul-q Inv-loop μ-loop
+mul-q c = omega (arith, i-small c)
+
+array-read-q : tie.Need-array-read-q Inv-loop μ-loop
+array-read-q c = i-small c
+
+same-symbol-requires : tie.Need-same-symbol-requires Inv-loop μ-loop
+same-symbol-requires c κs = (start c .pre .1, omega (arith, q-before c, start c .pre .2), start c .pre .2)
+
+slice-aggregate-images-of-2 : tie.Need-slice-aggregate-images-of-2 Inv-loop μ-loop
+slice-aggregate-images-of-2 c = search needs
+
+images-of-requires-2 : tie.Need-images-of-requires-2 Inv-loop μ-loop
+images-of-requires-2 c κs =
+    let t = c .before .before .before in
+    let p = start t .pre in
+    (p .0, p .1, omega (arith, q-before t), omega (arith, q-before t, p .2), omega (arith, p .2), p .4 .images-long, p .4 .images-are)
+
+-- the application is of the symbol, and the arguments of both are at hand
+module _ (c : tie.After-images-of2 Inv-loop μ-loop) where
+  abbrev turn : tie.In-loop Inv-loop μ-loop
+  turn = c .before .before .before .before
+
+  abbrev ar : ℕ
+  ar = read turn .before .before .arity-of .result
+
+  abbrev other : Node
+  other = node (nodesOf (bytes (read turn))) (q turn)
+
+  one-symbol : oneSymbol other (theNode (read turn)) ≡ true
+  one-symbol = sym (c .before .before .before .same-symbol .ensures) ∙ c .before .before .if2 .taken
+
+  same : sameSymbol (theNode (read turn)) (app turn) ≡ true
+  same = sym (tested turn) ∙ one-symbol
+
+  same-op : other .op ≡ theNode (read turn) .op
+  same-op = op-same other (theNode (read turn)) one-symbol
+
+  same-symbol : other .sym ≡ theNode (read turn) .sym
+  same-symbol = symbol-same other (theNode (read turn)) one-symbol
+
+  ar-positive : 1 ≤ ar
+  ar-positive =
+      let p = start turn .pre in
+      let given = arguments-given (bytes (read turn)) (p .0) (k (read turn)) (within (read turn)) (q turn) (q-before turn) in
+      omega (arith, arity-read (read turn), given (p .5) same-op same-symbol (p .6))
+
+  ar-few : ar ≤ 3
+  ar-few =
+      let p = start turn .pre in
+      few-arguments (bytes (read turn)) (p .0) (k (read turn)) (within (read turn)) (p .5) ar (arity-read (read turn))
+
+  xs-whole : take ar (read turn .images-of .result) ≡ args (bytes (read turn)) (k (read turn)) (theNode (read turn))
+  xs-whole =
+      let p = start turn .pre in
+      arguments-read (bytes (read turn)) (p .0) (k (read turn)) (within (read turn)) (p .5) ar (arity-read (read turn))
+      (k (read turn)) _ (read turn .images-of .ensures .0)
+
+  ys-whole : take ar (c .images-of2 .result) ≡ args (bytes (read turn)) (k (read turn)) (app turn .of)
+  ys-whole =
+      let p = start turn .pre in
+      let is-app = ap (λ op. isApp (opOf op)) same-op ∙ p .5 in
+      let its = arity-read (read turn) ∙ ap (arity (symbolsOf (bytes (read turn)))) (sym same-symbol) in
+      arguments-read (bytes (read turn)) (p .0) (q turn) (omega (arith, q-before turn, within (read turn))) is-app ar its
+      (k (read turn)) _ (c .images-of2 .ensures .0)
+      ∙ ap (args (bytes (read turn)) (k (read turn))) (q-is turn)
+
+mul-lay-choice : tie.Need-mul-lay-choice Inv-loop μ-loop
+mul-lay-choice c = omega (arith, i-small (turn (c .before)))
+
+array-read-lay-choice : tie.Need-array-read-lay-choice Inv-loop μ-loop
+array-read-lay-choice c = i-small (turn (c .before))
+
+lay-choice-requires : tie.Need-lay-choice-requires Inv-loop μ-loop
+lay-choice-requires c κs =
+    let t = turn (c .before) in
+    let inv = t .before .loop .inv in
+    let p = start t .pre in
+    let xs = read t .images-of .ensures in
+    let ys = c .before .images-of2 .ensures in (
+      omega (arith, inv .more),
+      ar-positive (c .before),
+      ar-few (c .before),
+      record { long = ap length (xs .0); first = xs .1; second = xs .2; third = xs .3 },
+      record { long = ap length (ys .0); first = ys .1; second = ys .2; third = ys .3 },
+      subst (λ m. m < 2632) (sym (p .4 .app-own (i t) (i-few t)))
+          (own-small (bytes (read t)) (p .0) (k (read t)) (within (read t)) (i t) (omega (arith, i-few t, p .4 .count-is))),
+      choosing-room _ _ _ _ _ _ _ inv (t .loop-test .taken) (same (c .before)),
+      omega (arith, inv .long, p .3),
+    )
+
+loop-less : tie.Need-loop-less Inv-loop μ-loop
+loop-less c = search needs
+
+loop-again : tie.Need-loop-again Inv-loop μ-loop
+loop-again c =
+    let arg = c .before .before .before .before in
+    let t = turn arg in
+    let laid = c .before .before .lay-choice in
+    let s = bytes (read t) in
+    let choice = choice-read (t .before .before .before) in
+    let own = start t .pre .4 .app-own (i t) (i-few t) in
+    choosing-same s (k (read t)) _ _ _ _ _ (t .before .loop .inv) (t .loop-test .taken) (same arg) _ _
+    (lays-as (λ u l. chosen-one s (k (read t)) (app t) _ _ _ _ choice own (xs-whole arg) (ys-whole arg) u) refl (laid .ensures .0))
+    (laid .ensures .1) (laid .ensures .2) (laid .kept .0)
+
+loop-less-2 : tie.Need-loop-less-2 Inv-loop μ-loop
+loop-less-2 c = search needs
+
+loop-again-2 : tie.Need-loop-again-2 Inv-loop μ-loop
+loop-again-2 c =
+    let t = c .before .before in
+    let other = sym (tested t) ∙ sym (c .before .same-symbol .ensures) ∙ c .if2 .left in
+    choosing-other (bytes (read t)) (k (read t)) _ _ _ _ _ (t .before .loop .inv) (t .loop-test .taken) other
+
+same-length : tie.Need-same-length Inv-loop μ-loop
+same-length c = search needs
+
+returns : tie.Need-returns Inv-loop μ-loop
+returns c =
+    let inv = c .before .loop .inv in
+    (choosing-last _ _ _ _ _ _ _ inv (omega arith), omega (arith, inv .more), omega (arith, inv .room))
+
+pub lay-choices-spec : {M : Type 1} → statement M
+lay-choices-spec =
+    tie.close
+    (tie.spec
+    Inv-loop
+    μ-loop
+    node-at-requires
+    add-wide
+    shared-slice-read-wide
+    wide-requires
+    arity-of-requires
+    slice-aggregate-images-of
+    images-of-requires
+    shared-slice-read-if1
+    add-at
+    loop-holds
+    sub-i
+    mul-q
+    array-read-q
+    same-symbol-requires
+    slice-aggregate-images-of-2
+    images-of-requires-2
+    mul-lay-choice
+    array-read-lay-choice
+    lay-choice-requires
+    loop-less
+    loop-again
+    loop-less-2
+    loop-again-2
+    same-length
+    returns)

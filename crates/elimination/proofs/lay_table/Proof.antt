@@ -1,0 +1,104 @@
+-- `lay_table` takes the nodes in order. The loop's invariant: what is at hand is that of the first k nodes, whose table stands
+-- at the start of the buffer. Assumes nothing.
+use borrow.Author.Needs.{needs}
+use mathlib.Core.Path.{_≡_, refl, sym, _∙_, subst}
+use Prim.Native.Nat.{ℕ, _-_, _≤_}
+use native.Mathlib.Omega.{arith}
+use mathlib.Core.List.{List}
+use lib.ListN.{length}
+use Rattle.definitions.specs.Problem.Node.{tableBytes}
+use Rattle.definitions.specs.Problem.Check.{nodeCount}
+use Rattle.definitions.specs.Operations.Buffers.{over}
+use Rattle.problem.specs.Shape.{Shaped}
+use Rattle.elimination.specs.State.{stateAt, LaidAt}
+use Rattle.elimination.proofs.StateLaws.{laid-none}
+use Rattle.elimination.proofs.Promising.{shaped}
+use Rattle.elimination.proofs.lay_table.Statement.{statement}
+use Rattle.elimination.proofs.lay_table.Tie as tie
+
+abbrev Inv-loop : tie.InvT-loop
+Inv-loop problem work₀ symbols nodes all₀ k₀ work all k =
+    (k ≤ nodes)
+    × LaidAt problem k all
+    × (work ≡ over (tableBytes (stateAt problem k .out)) work₀)
+    × (length work ≡ length work₀)
+
+abbrev μ-loop : tie.MeasureT-loop
+μ-loop problem work₀ symbols nodes all₀ k₀ work all k = nodes - k
+
+shared-slice-read-wide : tie.Need-shared-slice-read-wide Inv-loop μ-loop
+shared-slice-read-wide c = search needs
+
+wide-requires : tie.Need-wide-requires Inv-loop μ-loop
+wide-requires c κs = search needs
+
+two-at-requires : tie.Need-two-at-requires Inv-loop μ-loop
+two-at-requires c κs = search needs
+
+none-requires : tie.Need-none-requires Inv-loop μ-loop
+none-requires c κs = search needs
+
+loop-holds : tie.Need-loop-holds Inv-loop μ-loop
+loop-holds c =
+    let s = c .before .before .before .before .before .before .args .problem .now in
+    (omega arith, subst (LaidAt s 0) (sym (c .none .ensures)) (laid-none s), refl, refl)
+
+-- the problem, and the header that was read
+module _ (c : tie.At-loop Inv-loop μ-loop) where
+  abbrev start : tie.Start Inv-loop μ-loop
+  start = c .before .before .before .before .before .before .before
+
+  abbrev bytes : List ℕ
+  bytes = start .args .problem .now
+
+  header : Shaped bytes (c .before .before .before .wide .result) (c .before .before .two-at .result)
+  header = shaped (start .pre .0) (c .before .before .before .wide .ensures .0) (c .before .before .two-at .ensures .0)
+
+take-node-requires : tie.Need-take-node-requires Inv-loop μ-loop
+take-node-requires c κs =
+    let at = c .before .before in
+    let p = start at .pre in
+    (p .0, header at, c .before .loop-test .taken, omega (arith, p .1, at .loop .inv .3), at .loop .inv .1)
+
+add-k : tie.Need-add-k Inv-loop μ-loop
+add-k c = search needs
+
+loop-less : tie.Need-loop-less Inv-loop μ-loop
+loop-less c = search needs
+
+loop-again : tie.Need-loop-again Inv-loop μ-loop
+loop-again c =
+    let took = c .before .before in
+    let at = took .before .before .before in (
+      omega arith,
+      took .take-node .ensures .0,
+      took .take-node .ensures .1 _ (at .loop .inv .2),
+      took .take-node .kept .1 .1 .1 .1 .0 ∙ at .loop .inv .3,
+    )
+
+same-length : tie.Need-same-length Inv-loop μ-loop
+same-length c = search needs
+
+returns : tie.Need-returns Inv-loop μ-loop
+returns c =
+    let inv = c .before .loop .inv in
+    let all : c .before .loop .k ≡ nodeCount (bytes (c .before)) = omega (arith, header (c .before) .nodes-are, inv .0) in
+    record { laid = rw all at (inv .1); work-after = rw all at (inv .2) }
+
+pub lay-table-spec : {M : Type 1} → statement M
+lay-table-spec =
+    tie.close
+    (tie.spec
+    Inv-loop
+    μ-loop
+    shared-slice-read-wide
+    wide-requires
+    two-at-requires
+    none-requires
+    loop-holds
+    take-node-requires
+    add-k
+    loop-less
+    loop-again
+    same-length
+    returns)

@@ -1,0 +1,113 @@
+// A distinct application: its own variable node, then a choice for each earlier application of its symbol, latest first.
+ghost use mathlib.Core.Path.{_≡_};
+ghost use Prim.Native.Nat.{_+_, _<_, _≤_};
+ghost use mathlib.Core.Bool.{true};
+ghost use mathlib.Core.Option.{none};
+ghost use lib.ListN.{length, take};
+ghost use Rattle.definitions.specs.Lists.{keep};
+ghost use Rattle.definitions.specs.Problem.Node.{node};
+ghost use Rattle.definitions.specs.Problem.Ops.{opOf, isApp};
+ghost use Rattle.definitions.specs.Problem.Check.{symbolsOf, nodesOf};
+ghost use Rattle.definitions.specs.Elimination.{imagesOf, choices, sameSymbol, nextVar};
+ghost use Rattle.theorems.proofs.Accepted.{Accepted};
+ghost use Rattle.problem.specs.Shape.{Shaped};
+ghost use Rattle.problem.specs.Stages.{firstSame};
+ghost use Rattle.elimination.specs.Lays.{Lays};
+ghost use Rattle.elimination.specs.State.{stateAt, LaidAt, StepLays, oneSymbol};
+use crate::conditions::lay_choice;
+use crate::copies::images_of;
+use crate::laid::Laid;
+use crate::put::lay;
+use problem::bytes::wide;
+use problem::nodes::arity_of;
+use problem::nodes::node_at;
+
+// Nodes q and k are of the same op and the same symbol.
+fn same_symbol(problem: &[u8], symbols: usize, nodes: usize, q: usize, k: usize) -> bool
+    requires { ⌜ Shaped (now problem) symbols nodes × (q < nodes) × (k < nodes) ⌝ }
+    ensures { λ r. ⌜ r ≡ oneSymbol (node (nodesOf (now (problem .entry))) q) (node (nodesOf (now (problem .entry))) k) ⌝ }
+{
+    let there = node_at(symbols, q);
+    let here = node_at(symbols, k);
+    if problem[there] != problem[here] {
+        return false;
+    }
+    problem[there + 1] == problem[here + 1]
+}
+
+// The choices for node k, after its own variable node: the applications are looked at from the latest on.
+fn lay_choices(
+    problem: &[u8],
+    symbols: usize,
+    nodes: usize,
+    k: usize,
+    work: &mut [u8],
+    before: Laid,
+) -> usize
+    requires { ⌜ Accepted (now problem) × Shaped (now problem) symbols nodes × (k < nodes) × (21056 ≤ length (now work)) × LaidAt (now problem) k before × (isApp (opOf (node (nodesOf (now problem)) k .op)) ≡ true) × (firstSame (node (nodesOf (now problem)) k) (take k (nodesOf (now problem))) ≡ none) ⌝ }
+    ensures { λ r. ⌜ Lays (now (work .entry)) (now (work .exit)) (before .nodes + 1) r (λ t. choices (node (nodesOf (now (problem .entry))) k .op) (imagesOf (symbolsOf (now (problem .entry))) (stateAt (now (problem .entry)) k .images)) t (imagesOf (symbolsOf (now (problem .entry))) (stateAt (now (problem .entry)) k .images) (node (nodesOf (now (problem .entry))) k)) (keep (sameSymbol (node (nodesOf (now (problem .entry))) k)) (stateAt (now (problem .entry)) k .apps))) × (before .nodes < r) × (r ≤ 2632) ⌝ }
+{
+    let images = before.images;
+    let apps = before.apps;
+    let owns = before.owns;
+    let here = node_at(symbols, k);
+    let arity = arity_of(problem, symbols, nodes, wide(problem[here + 1]));
+    let xs = images_of(problem, symbols, nodes, k, k, &images);
+    let choice = if problem[here] == 0 { 1 } else { 9 };
+    let mut at = before.nodes + 1;
+    let mut i = before.count;
+    while 0 < i {
+        i -= 1;
+        let q = apps[i];
+        if same_symbol(problem, symbols, nodes, q, k) {
+            let ys = images_of(problem, symbols, nodes, k, q, &images);
+            at = lay_choice(work, at, choice, arity, xs, ys, owns[i]);
+        }
+    }
+    at
+}
+
+// All that is laid for node k: its own variable node, of this number, and the choices.
+fn lay_application(
+    problem: &[u8],
+    symbols: usize,
+    nodes: usize,
+    k: usize,
+    work: &mut [u8],
+    before: Laid,
+    variable: usize,
+) -> usize
+    requires { ⌜ Accepted (now problem) × Shaped (now problem) symbols nodes × (k < nodes) × (21056 ≤ length (now work)) × LaidAt (now problem) k before × (isApp (opOf (node (nodesOf (now problem)) k .op)) ≡ true) × (firstSame (node (nodesOf (now problem)) k) (take k (nodesOf (now problem))) ≡ none) × (variable ≡ nextVar (stateAt (now problem) k) (node (nodesOf (now problem)) k)) ⌝ }
+    ensures { λ r. ⌜ StepLays (now (problem .entry)) k (now (work .entry)) (now (work .exit)) × (r ≡ length (stateAt (now (problem .entry)) (k + 1) .out)) × (1 ≤ r) ⌝ }
+{
+    let op = problem[node_at(symbols, k)];
+    lay(work, before.nodes, op, (variable % 256) as u8, 0, 0, 0);
+    lay_choices(problem, symbols, nodes, k, work, before)
+}
+
+// One distinct application more.
+pub fn add_application(
+    problem: &[u8],
+    symbols: usize,
+    nodes: usize,
+    k: usize,
+    work: &mut [u8],
+    before: Laid,
+) -> Laid
+    requires { ⌜ Accepted (now problem) × Shaped (now problem) symbols nodes × (k < nodes) × (21056 ≤ length (now work)) × LaidAt (now problem) k before × (isApp (opOf (node (nodesOf (now problem)) k .op)) ≡ true) × (firstSame (node (nodesOf (now problem)) k) (take k (nodesOf (now problem))) ≡ none) ⌝ }
+    ensures { λ r. ⌜ LaidAt (now (problem .entry)) (k + 1) r × StepLays (now (problem .entry)) k (now (work .entry)) (now (work .exit)) ⌝ }
+{
+    let own = before.nodes;
+    let functions = before.functions;
+    let predicates = before.predicates;
+    if problem[node_at(symbols, k)] == 0 {
+        let at = lay_application(problem, symbols, nodes, k, work, before, functions);
+        return before
+            .applied(k, own, functions + 1, predicates)
+            .imaged(k, at - 1, at);
+    }
+    let at = lay_application(problem, symbols, nodes, k, work, before, predicates);
+    before
+        .applied(k, own, functions, predicates + 1)
+        .imaged(k, at - 1, at)
+}

@@ -1,0 +1,52 @@
+// The condition that two applications have equal arguments, and the choice that goes by it.
+ghost use Prim.Native.Nat.{_+_, _<_, _≤_};
+ghost use lib.ListN.{length, take};
+ghost use Rattle.definitions.specs.Lists.{snoc};
+ghost use Rattle.definitions.specs.Problem.Node.{plain};
+ghost use Rattle.definitions.specs.Elimination.{last, condition};
+ghost use Rattle.elimination.specs.Lays.{Lays, Small};
+use crate::put::lay;
+
+// The condition that the arguments xs and ys are equal in pairs: an equation for the first; for each further one an equation, then
+// an "and" of what stood before with it.
+fn lay_condition(
+    work: &mut [u8],
+    count: usize,
+    arity: usize,
+    xs: [usize; 3],
+    ys: [usize; 3],
+) -> usize
+    requires { ⌜ (1 ≤ arity) × (arity ≤ 3) × Small xs × Small ys × (count + 5 ≤ 2632) × (21056 ≤ length (now work)) ⌝ }
+    ensures { λ r. ⌜ Lays (now (work .entry)) (now (work .exit)) count r (λ t. condition t (take arity xs) (take arity ys)) × (count < r) × (r ≤ count + 5) ⌝ }
+{
+    lay(work, count, 2, 0, xs[0], ys[0], 0);
+    if arity == 1 {
+        return count + 1;
+    }
+    lay(work, count + 1, 2, 0, xs[1], ys[1], 0);
+    lay(work, count + 2, 4, 0, count, count + 1, 0);
+    if arity == 2 {
+        return count + 3;
+    }
+    lay(work, count + 3, 2, 0, xs[2], ys[2], 0);
+    lay(work, count + 4, 4, 0, count + 2, count + 3, 0);
+    count + 5
+}
+
+// The condition, and then the choice between the earlier application's own variable and what stood last.
+pub fn lay_choice(
+    work: &mut [u8],
+    count: usize,
+    op: u8,
+    arity: usize,
+    xs: [usize; 3],
+    ys: [usize; 3],
+    own: usize,
+) -> usize
+    requires { ⌜ (1 ≤ count) × (1 ≤ arity) × (arity ≤ 3) × Small xs × Small ys × (own < 2632) × (count + 6 ≤ 2632) × (21056 ≤ length (now work)) ⌝ }
+    ensures { λ r. ⌜ Lays (now (work .entry)) (now (work .exit)) count r (λ t. snoc (condition t (take arity xs) (take arity ys)) (plain op (last (condition t (take arity xs) (take arity ys))) own (last t))) × (count < r) × (r ≤ count + 6) ⌝ }
+{
+    let at = lay_condition(work, count, arity, xs, ys);
+    lay(work, at, op, 0, at - 1, own, count - 1);
+    at + 1
+}

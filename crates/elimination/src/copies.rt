@@ -1,0 +1,87 @@
+// The images of a node's operands, and copies of nodes that are no applications.
+ghost use mathlib.Core.Path.{_≡_};
+ghost use Prim.Native.Nat.{_+_, _<_, _≤_};
+ghost use mathlib.Core.Bool.{false};
+ghost use lib.ListN.{length, getD, take};
+ghost use Rattle.definitions.specs.Problem.Node.{node};
+ghost use Rattle.definitions.specs.Problem.Ops.{opOf, isApp};
+ghost use Rattle.definitions.specs.Problem.Check.{symbolsOf, nodesOf};
+ghost use Rattle.definitions.specs.Elimination.{imagesOf};
+ghost use Rattle.theorems.proofs.Accepted.{Accepted};
+ghost use Rattle.problem.specs.Shape.{Shaped};
+ghost use Rattle.elimination.specs.State.{stateAt, LaidAt, StepLays, three};
+use crate::laid::Laid;
+use crate::put::lay;
+use problem::bytes::two_at;
+use problem::bytes::wide;
+use problem::nodes::Wanted;
+use problem::nodes::arity_of;
+use problem::nodes::node_at;
+use problem::nodes::wants;
+
+// The image of operand j of node q, 0 where the field is unused; k nodes are taken.
+fn image_at(
+    problem: &[u8],
+    symbols: usize,
+    nodes: usize,
+    k: usize,
+    q: usize,
+    j: usize,
+    images: &[usize],
+) -> usize
+    requires { ⌜ Accepted (now problem) × Shaped (now problem) symbols nodes × (q ≤ k) × (q < nodes) × (k ≤ nodes) × (j < 3) × (length (now images) ≡ 256) × (take k (now images) ≡ stateAt (now problem) k .images) ⌝ }
+    ensures { λ r. ⌜ (r ≡ getD (imagesOf (symbolsOf (now (problem .entry))) (stateAt (now (problem .entry)) k .images) (node (nodesOf (now (problem .entry))) q)) j 0) × (r < 2632) ⌝ }
+{
+    let at = node_at(symbols, q);
+    let arity = arity_of(problem, symbols, nodes, wide(problem[at + 1]));
+    if let Wanted::Unused = wants(problem[at], arity, j) {
+        return 0;
+    }
+    let operand = two_at(problem, at + 2 + 2 * j);
+    images[operand]
+}
+
+// The images of the operands of node q that are in use, with 0 after them.
+pub fn images_of(
+    problem: &[u8],
+    symbols: usize,
+    nodes: usize,
+    k: usize,
+    q: usize,
+    images: &[usize],
+) -> [usize; 3]
+    requires { ⌜ Accepted (now problem) × Shaped (now problem) symbols nodes × (q ≤ k) × (q < nodes) × (k ≤ nodes) × (length (now images) ≡ 256) × (take k (now images) ≡ stateAt (now problem) k .images) ⌝ }
+    ensures { λ r. ⌜ (r ≡ three (imagesOf (symbolsOf (now (problem .entry))) (stateAt (now (problem .entry)) k .images) (node (nodesOf (now (problem .entry))) q))) × (getD r 0 0 < 2632) × (getD r 1 0 < 2632) × (getD r 2 0 < 2632) ⌝ }
+{
+    let a = image_at(problem, symbols, nodes, k, q, 0, images);
+    let b = image_at(problem, symbols, nodes, k, q, 1, images);
+    let c = image_at(problem, symbols, nodes, k, q, 2, images);
+    [a, b, c]
+}
+
+// One copy, operands replaced by their images.
+pub fn copy_node(
+    problem: &[u8],
+    symbols: usize,
+    nodes: usize,
+    k: usize,
+    work: &mut [u8],
+    before: Laid,
+) -> Laid
+    requires { ⌜ Accepted (now problem) × Shaped (now problem) symbols nodes × (k < nodes) × (21056 ≤ length (now work)) × LaidAt (now problem) k before × (isApp (opOf (node (nodesOf (now problem)) k .op)) ≡ false) ⌝ }
+    ensures { λ r. ⌜ LaidAt (now (problem .entry)) (k + 1) r × StepLays (now (problem .entry)) k (now (work .entry)) (now (work .exit)) ⌝ }
+{
+    let images = before.images;
+    let count = before.nodes;
+    let xs = images_of(problem, symbols, nodes, k, k, &images);
+    lay(
+        work,
+        count,
+        problem[node_at(symbols, k)],
+        0,
+        xs[0],
+        xs[1],
+        xs[2],
+    );
+    before.imaged(k, count, count + 1)
+}
