@@ -1,0 +1,11 @@
+pub mod ClassLaws
+pub mod Filled
+pub mod LeafLaws
+pub mod LinkLaws
+pub mod Measuring
+pub mod SetLaws
+pub mod SizeLaws
+pub mod TableBack
+pub mod TableLaws
+pub mod TopLaws
+pub mod Unions

@@ -1,0 +1,63 @@
+-- A table read back from its bytes is the table, whatever stands after them. Assumes nothing.
+use mathlib.Core.Path.{_≡_, refl, sym, ap, ap₂, _∙_}
+use Prim.Native.Nat.{ℕ, zero, suc, _+_, _*_, _/_, _%_, _≤_, _<_}
+use native.Mathlib.Omega.{arith}
+use mathlib.Core.List.{List, [], _∷_, _++_, append-assoc}
+use lib.ListN.{length, getD}
+use lib.Seq.{getD-append-add}
+use Rattle.definitions.specs.Bytes.{byteAt, twoAt}
+use Rattle.definitions.specs.Problem.Node.{Node, node, nodeAt, nodesAt, nodeBytes, tableBytes}
+use Rattle.definitions.specs.Operations.Buffers.{over}
+use Rattle.theorems.proofs.Fits.{FitsNode}
+use Rattle.ranges.specs.Table.{tableIn}
+
+two-back : (x : ℕ) → x < 65536 → x % 256 + 256 * (x / 256 % 256) ≡ x
+two-back x h = omega arith
+
+-- the eight bytes of a node
+pub node-back : (n : Node) → FitsNode n → (rest : List ℕ) → nodeAt (nodeBytes n ++ rest) 0 ≡ n
+node-back n f rest =
+    λ i.
+    record {
+      op = n .op;
+      sym = n .sym;
+      a = two-back (n .a) (f .a-fits) i;
+      b = two-back (n .b) (f .b-fits) i;
+      c = two-back (n .c) (f .c-fits) i;
+    }
+
+-- what stands after some bytes is read at places after them
+module _ (p xs : List ℕ) where
+  byte-after : (i j : ℕ) → j ≡ length p + i → byteAt (p ++ xs) j ≡ byteAt xs i
+  byte-after i j e = ap (byteAt (p ++ xs)) e ∙ getD-append-add p xs i 0
+
+  two-after : (i j : ℕ) → j ≡ length p + i → twoAt (p ++ xs) j ≡ twoAt xs i
+  two-after i j e = ap₂ (λ a b. a + 256 * b) (byte-after i j e) (byte-after (i + 1) (j + 1) (omega arith))
+
+  node-after : (i j : ℕ) → j ≡ length p + i → nodeAt (p ++ xs) j ≡ nodeAt xs i
+  node-after i j e =
+      λ k.
+      record {
+        op = byte-after i j e k;
+        sym = byte-after (i + 1) (j + 1) (omega arith) k;
+        a = two-after (i + 2) (j + 2) (omega arith) k;
+        b = two-after (i + 4) (j + 4) (omega arith) k;
+        c = two-after (i + 6) (j + 6) (omega arith) k;
+      }
+
+  nodes-after : (i j m : ℕ) → j ≡ length p + i → nodesAt (p ++ xs) j m ≡ nodesAt xs i m
+  nodes-after i j zero e = refl
+  nodes-after i j (suc m) e =
+      ap₂ {C = List Node} (λ n ns. n ∷ ns) (node-after i j e) (nodes-after (i + 8) (j + 8) m (omega arith))
+
+nodes-back : (t : List Node) → ((k : ℕ) → k < length t → FitsNode (node t k)) → (rest : List ℕ) → nodesAt (tableBytes t ++ rest) 0 (length t) ≡ t
+nodes-back [] f rest = refl
+nodes-back (n ∷ t) f rest =
+    let after = tableBytes t ++ rest in
+    ap (λ s. nodesAt s 0 (suc (length t))) (append-assoc (nodeBytes n) (tableBytes t) rest)
+    ∙ ap₂ {C = List Node} (λ m ms. m ∷ ms) (node-back n (f 0 (omega arith)) after)
+    (nodes-after (nodeBytes n) after 0 (0 + 8) (length t) refl ∙ nodes-back t (λ k h. f (suc k) (omega arith)) rest)
+
+-- the table at the start of a buffer
+pub table-back : (t : List Node) → ((k : ℕ) → k < length t → FitsNode (node t k)) → (w : List ℕ) → tableIn (over (tableBytes t) w) (length t) ≡ t
+table-back t f w = nodes-back t f _

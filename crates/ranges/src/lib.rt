@@ -1,0 +1,81 @@
+// The ranges: leaves, components, ranks and tops of the function-free table, and the product of all range sizes.
+ghost use Prim.Native.Nat.{_+_, _*_, _<_, _≤_};
+ghost use mathlib.Core.Path.{_≡_};
+ghost use lib.ListN.{length};
+ghost use Rattle.definitions.specs.Operations.Promises.{RangesPromise};
+ghost use Rattle.ranges.specs.Table.{TableIn};
+ghost use Rattle.ranges.specs.Spans.{SpansAre, noRanges};
+use crate::components::classes;
+use crate::leaves::leaf_sets;
+use crate::sizes::Product;
+use crate::sizes::multiplied;
+use crate::sizes::tops;
+use definitions::Checked;
+use definitions::Measured;
+use definitions::Ranges;
+use definitions::Refusal;
+use elimination::lay_table;
+
+pub mod components;
+pub mod leaves;
+pub mod sizes;
+
+pub fn ranges(problem: &[u8], work: &mut [u8]) -> Ranges
+    ensures { λ r. ⌜ RangesPromise (now (problem .entry)) (now (work .entry)) r (now (work .exit)) ⌝ }
+{
+    match problem::check(problem) {
+        Checked::Refused(refusal) => refused(refusal),
+        Checked::Accepted {
+            functions,
+            predicates,
+        } => {
+            if work.len() < 21056 {
+                refused(Refusal::ShortWork)
+            } else {
+                let all = lay_table(problem, work);
+                let spans = measure(work, all.nodes, functions, predicates);
+                let tops = spans.tops;
+                let size = spans.product;
+                match size {
+                    Product::Big => refused(Refusal::BigProduct),
+                    Product::Of(product) => Ranges {
+                        tops,
+                        answer: Measured::Given {
+                            truths: predicates,
+                            product,
+                        },
+                    },
+                }
+            }
+        }
+    }
+}
+
+// A refusal says nothing else: its tops are zeros.
+fn refused(refusal: Refusal) -> Ranges
+    ensures { λ r. ⌜ r ≡ noRanges refusal ⌝ }
+{
+    Ranges {
+        tops: [0; 24],
+        answer: Measured::Refused(refusal),
+    }
+}
+
+// The tops and the product of a table.
+pub struct Spans {
+    pub tops: [u8; 24],
+    pub product: Product,
+}
+
+pub fn measure(table: &[u8], nodes: usize, variables: usize, truths: usize) -> Spans
+    requires { ⌜ TableIn (now table) nodes variables truths ⌝ }
+    ensures { λ r. ⌜ SpansAre (now (table .entry)) nodes variables truths r ⌝ }
+{
+    let sets = leaf_sets(table, nodes, variables, truths);
+    let joined = classes(table, nodes, variables, truths, &sets);
+    let tops = tops(joined, variables);
+    Spans {
+        tops,
+        product: multiplied(tops, variables, truths),
+    }
+}

@@ -1,0 +1,253 @@
+-- The value of one node of the table at an assignment, as a byte, from the bytes of the values before it. Assumes nothing.
+use mathlib.Core.Path.{_≡_, refl, sym, ap, ap₂, _∙_, subst}
+use Prim.Native.Nat.{ℕ, zero, suc, _+_, _*_, _-_, _≤_, _<_}
+use native.Mathlib.Omega.{arith}
+use native.Mathlib.Numerals.{add-one}
+use mathlib.Core.Bool.{Bool, true, false, not, _&&_, _||_, cond, false≢true}
+use mathlib.Core.List.{List, [], _∷_, _++_, map, map-append}
+use mathlib.Core.Option.{Option, none, some}
+use lib.ListN.{length, getD, take, set, List·getD-map}
+use lib.Seq.{getD-take, length-take-le, take-suc, take-suc-set}
+use lib.Dec.{eqb}
+use lib.Bits.{bitAnd, bitOr}
+use borrow.Author.Tests.{eq-eqb, ne-eqb}
+use Rattle.definitions.specs.Problem.Node.{Node, node, noNode, nodeAt, nodesAt}
+use Rattle.definitions.specs.Problem.Ops.{opOf, Sort, term, formula, sortOf, operandSorts, fits, countOf, fieldsOf}
+use Rattle.definitions.specs.Logic.{Interpretation, Value, number, truth, numberOf, truthOf, valueAt, numberAt, truthAt, opValue, nodeValue, values}
+use Rattle.definitions.specs.Places.{assignment}
+use Rattle.definitions.specs.Witness.{byteOf}
+use Rattle.theorems.proofs.Accepted.{length-nodesAt}
+use Rattle.theorems.proofs.Laws.Ops.{Sorted, sortAt, operands-sorted, op-number, op-truth}
+use Rattle.theorems.proofs.Laws.Grown.{length-grown}
+use Rattle.theorems.proofs.Tables.Free.{Free, namesOf, free-named, free-fits, free-fixed}
+use Rattle.problem.proofs.NodeLaws.{node-nodesAt}
+use Rattle.ranges.specs.Table.{TableIn, tableIn}
+use Rattle.walk.specs.Digits.{Digits, ValuesAre, valueIn}
+
+-- a truth value as a byte
+abbrev pub bit : Bool → ℕ
+bit true = 1
+bit false = 0
+
+byte-truth : (b : Bool) → byteOf (truth b) ≡ bit b
+byte-truth true = refl
+byte-truth false = refl
+
+module _ (bytes : List ℕ) (nodes N P : ℕ) (tab : TableIn bytes nodes N P) (ds : List ℕ) where
+  abbrev t : List Node
+  t = tableIn bytes nodes
+
+  abbrev A : Interpretation
+  A = assignment N ds
+
+  abbrev vs : List Value
+  vs = values A [] t
+
+  nodes-are : length t ≡ nodes
+  nodes-are = length-nodesAt bytes 0 nodes
+
+  -- what the values say, by the sort of the node
+  pub number-byte : (i : ℕ) → i < nodes → sortAt t i ≡ term → byteOf (valueAt vs i) ≡ numberAt vs i
+  number-byte i h s =
+      let e = free-fixed N P t (tab .free) i (let l = nodes-are in omega arith) A in
+      let v = e ∙ op-number A vs (opOf (node t i .op)) (node t i) _ s ∙ ap (λ (w : Value). number (numberOf w)) (sym e) in
+      ap byteOf v
+
+  pub truth-byte : (i : ℕ) → i < nodes → sortAt t i ≡ formula → byteOf (valueAt vs i) ≡ bit (truthAt vs i)
+  truth-byte i h s =
+      let e = free-fixed N P t (tab .free) i (let l = nodes-are in omega arith) A in
+      let v = e ∙ op-truth A vs (opOf (node t i .op)) (node t i) _ s ∙ ap (λ (w : Value). truth (truthOf w)) (sym e) in
+      ap byteOf v ∙ byte-truth (truthAt vs i)
+
+  module _ (k : ℕ) (below : k < nodes) (vals : List ℕ) (known : ValuesAre bytes nodes N ds k vals) where
+    abbrev n : Node
+    n = node t k
+
+    -- node k, where it stands
+    pub node-here : n ≡ nodeAt bytes (8 * k)
+    node-here = node-nodesAt bytes 0 nodes k below ∙ ap (nodeAt bytes) (let e : 0 + 8 * k ≡ 8 * k = omega arith in e)
+
+    here : k < length t
+    here = let l = nodes-are in omega arith
+
+    -- an operand: an earlier node of the sort asked
+    abbrev Known : List Sort → List ℕ → Type 0
+    Known [] ks = Unit {0}
+    Known (s ∷ ss) [] = ⊥
+    Known (s ∷ ss) (i ∷ ks) = (i < k) × (sortAt t i ≡ s) × Known ss ks
+
+    known-of : (ss : List Sort) (ks : List ℕ) → Sorted (take k t) ss ks → Known ss ks
+    known-of [] ks w = tt
+    known-of (s ∷ ss) [] w = absurd w
+    known-of (s ∷ ss) (i ∷ ks) w =
+        let h : i < k = (let x = w .0 in let y = length-take-le k t (let l = nodes-are in omega arith) in omega arith) in
+        (h, ap (λ (q : Node). sortOf (opOf (q .op))) (sym (getD-take k t i noNode h)) ∙ w .1, known-of ss ks (w .2))
+
+    -- the operands of a node of an op
+    pub operands : (op : ℕ) → n .op ≡ op → (ss : List Sort) → operandSorts (opOf op) 0 ≡ some ss → Known ss (fieldsOf n)
+    operands op q ss e =
+        known-of ss (fieldsOf n)
+        (operands-sorted (take k t) ss (fieldsOf n)
+        (subst (λ (o : Option (List Sort)). fits (take k t) o (fieldsOf n) ≡ true) (ap (λ x. operandSorts (opOf x) 0) q ∙ e) (free-fits N P t (tab .free) k here)))
+
+    -- the value at hand of an earlier node
+    at-hand : (i : ℕ) → i < k → getD vals i 0 ≡ byteOf (valueAt vs i)
+    at-hand i h =
+        sym (getD-take k vals i 0 h) ∙ ap (λ xs. getD xs i 0) known ∙ List·getD-map byteOf (take k vs) i (number 0)
+        ∙ ap byteOf (getD-take k vs i (number 0) h)
+
+    number-at-hand : (i : ℕ) → i < k → sortAt t i ≡ term → getD vals i 0 ≡ numberAt vs i
+    number-at-hand i h s = at-hand i h ∙ number-byte i (omega arith) s
+
+    truth-at-hand : (i : ℕ) → i < k → sortAt t i ≡ formula → getD vals i 0 ≡ bit (truthAt vs i)
+    truth-at-hand i h s = at-hand i h ∙ truth-byte i (omega arith) s
+
+    -- node k by the number of its op
+    value-here : (op : ℕ) → n .op ≡ op
+        → valueIn bytes nodes N ds k ≡ byteOf (opValue A vs (opOf op) n (map (numberAt vs) (take (countOf (operandSorts (opOf op) 0)) (fieldsOf n))))
+    value-here op q =
+        ap byteOf
+        (free-fixed N P t (tab .free) k here A
+        ∙ ap (λ x. opValue A vs (opOf x) n (map (numberAt vs) (take (countOf (operandSorts (opOf x) 0)) (fieldsOf n)))) q)
+
+    named : (op : ℕ) → n .op ≡ op → n .sym < namesOf N P (opOf op)
+    named op q = subst (λ x. n .sym < namesOf N P (opOf x)) q (free-named N P t (tab .free) k here)
+
+    pub variable-named : n .op ≡ 0 → n .sym < N
+    variable-named q = named 0 q
+
+    pub truth-named : n .op ≡ 6 → n .sym < P
+    truth-named q = named 6 q
+
+    pub at-variable : n .op ≡ 0 → getD ds (n .sym) 0 + 1 ≡ valueIn bytes nodes N ds k
+    at-variable q = (let e : getD ds (n .sym) 0 + 1 ≡ suc (getD ds (n .sym) 0) = omega arith in e) ∙ sym (value-here 0 q)
+
+    bit-below : (d : ℕ) → d < 2 → d ≡ bit (eqb d 1)
+    bit-below zero h = refl
+    bit-below (suc zero) h = refl
+    bit-below (suc (suc d)) h = absurd (omega arith)
+
+    pub at-truth : Digits N P ds → n .op ≡ 6 → getD ds (N + n .sym) 0 ≡ valueIn bytes nodes N ds k
+    at-truth dg q =
+        bit-below (getD ds (N + n .sym) 0) (dg .bits (n .sym) (truth-named q))
+        ∙ sym (byte-truth (eqb (getD ds (N + n .sym) 0) 1))
+        ∙ sym (value-here 6 q)
+
+    pub at-yes : n .op ≡ 7 → 1 ≡ valueIn bytes nodes N ds k
+    at-yes q = sym (value-here 7 q)
+
+    pub at-no : n .op ≡ 8 → 0 ≡ valueIn bytes nodes N ds k
+    at-no q = sym (value-here 8 q)
+
+    one-true : (b : Bool) → bit b ≡ 1 → b ≡ true
+    one-true true e = refl
+    one-true false e = absurd (omega arith)
+
+    not-one : (b : Bool) → (bit b ≡ 1 → ⊥) → b ≡ false
+    not-one true e = absurd (e refl)
+    not-one false e = refl
+
+    -- the second operand where the first is true, else the third
+    pub at-choice : n .op ≡ 1
+        → ((getD vals (n .a) 0 ≡ 1 → getD vals (n .b) 0 ≡ valueIn bytes nodes N ds k)
+        × ((getD vals (n .a) 0 ≡ 1 → ⊥) → getD vals (n .c) 0 ≡ valueIn bytes nodes N ds k))
+    at-choice q =
+        let w = operands 1 q (formula ∷ term ∷ term ∷ []) refl in
+        let first = truth-at-hand (n .a) (w .0) (w .1) in (
+          λ e.
+              number-at-hand (n .b) (w .2 .0) (w .2 .1)
+              ∙ sym (value-here 1 q ∙ ap (λ (c : Bool). cond c (numberAt vs (n .b)) (numberAt vs (n .c))) (one-true (truthAt vs (n .a)) (sym first ∙ e))),
+          λ e.
+              number-at-hand (n .c) (w .2 .2 .0) (w .2 .2 .1)
+              ∙ sym (value-here 1 q ∙ ap (λ (c : Bool). cond c (numberAt vs (n .b)) (numberAt vs (n .c))) (not-one (truthAt vs (n .a)) (λ z. e (first ∙ z)))),
+        )
+
+    pub at-select : n .op ≡ 9
+        → ((getD vals (n .a) 0 ≡ 1 → getD vals (n .b) 0 ≡ valueIn bytes nodes N ds k)
+        × ((getD vals (n .a) 0 ≡ 1 → ⊥) → getD vals (n .c) 0 ≡ valueIn bytes nodes N ds k))
+    at-select q =
+        let w = operands 9 q (formula ∷ formula ∷ formula ∷ []) refl in
+        let first = truth-at-hand (n .a) (w .0) (w .1) in
+        let picked : (c : Bool) → truthAt vs (n .a) ≡ c → valueIn bytes nodes N ds k ≡ bit (cond c (truthAt vs (n .b)) (truthAt vs (n .c))) =
+        λ c e.
+        value-here 9 q ∙ byte-truth (cond (truthAt vs (n .a)) (truthAt vs (n .b)) (truthAt vs (n .c)))
+        ∙ ap (λ (d : Bool). bit (cond d (truthAt vs (n .b)) (truthAt vs (n .c)))) e
+        in (
+          λ e. truth-at-hand (n .b) (w .2 .0) (w .2 .1) ∙ sym (picked true (one-true (truthAt vs (n .a)) (sym first ∙ e))),
+          λ e. truth-at-hand (n .c) (w .2 .2 .0) (w .2 .2 .1) ∙ sym (picked false (not-one (truthAt vs (n .a)) (λ z. e (first ∙ z)))),
+        )
+
+    -- an equation
+    pub at-equal : n .op ≡ 2 → getD vals (n .a) 0 ≡ getD vals (n .b) 0 → 1 ≡ valueIn bytes nodes N ds k
+    at-equal q e =
+        let w = operands 2 q (term ∷ term ∷ []) refl in
+        sym
+        (value-here 2 q
+        ∙ ap (λ (c : Bool). byteOf (truth c))
+        (eq-eqb (numberAt vs (n .a)) (numberAt vs (n .b)) (sym (number-at-hand (n .a) (w .0) (w .1)) ∙ e ∙ number-at-hand (n .b) (w .2 .0) (w .2 .1))))
+
+    pub at-differ : n .op ≡ 2 → (getD vals (n .a) 0 ≡ getD vals (n .b) 0 → ⊥) → 0 ≡ valueIn bytes nodes N ds k
+    at-differ q e =
+        let w = operands 2 q (term ∷ term ∷ []) refl in
+        sym
+        (value-here 2 q
+        ∙ ap (λ (c : Bool). byteOf (truth c))
+        (ne-eqb (numberAt vs (n .a)) (numberAt vs (n .b)) (λ z. e (number-at-hand (n .a) (w .0) (w .1) ∙ z ∙ sym (number-at-hand (n .b) (w .2 .0) (w .2 .1))))))
+
+    -- the connectives
+    pub first-bit : (op : ℕ) → n .op ≡ op → (ss : List Sort) → operandSorts (opOf op) 0 ≡ some (formula ∷ ss) → getD vals (n .a) 0 ≤ 1
+    first-bit op q ss e =
+        let w = operands op q (formula ∷ ss) e in
+        subst (λ x. x ≤ 1) (sym (truth-at-hand (n .a) (w .0) (w .1))) (small (truthAt vs (n .a)))
+      where
+        small : (b : Bool) → bit b ≤ 1
+        small true = omega arith
+        small false = omega arith
+
+    pub at-not : n .op ≡ 3 → 1 - getD vals (n .a) 0 ≡ valueIn bytes nodes N ds k
+    at-not q =
+        let w = operands 3 q (formula ∷ []) refl in
+        ap (λ x. 1 - x) (truth-at-hand (n .a) (w .0) (w .1)) ∙ go (truthAt vs (n .a)) ∙ sym (value-here 3 q)
+      where
+        go : (b : Bool) → 1 - bit b ≡ byteOf (truth (not b))
+        go true = refl
+        go false = refl
+
+    pub at-and : n .op ≡ 4 → bitAnd (getD vals (n .a) 0) (getD vals (n .b) 0) ≡ valueIn bytes nodes N ds k
+    at-and q =
+        let w = operands 4 q (formula ∷ formula ∷ []) refl in
+        ap₂ bitAnd (truth-at-hand (n .a) (w .0) (w .1)) (truth-at-hand (n .b) (w .2 .0) (w .2 .1))
+        ∙ go (truthAt vs (n .a)) (truthAt vs (n .b)) ∙ sym (value-here 4 q)
+      where
+        go : (b c : Bool) → bitAnd (bit b) (bit c) ≡ byteOf (truth (b && c))
+        go true true = refl
+        go true false = refl
+        go false true = refl
+        go false false = refl
+
+    pub at-or : n .op ≡ 5 → bitOr (getD vals (n .a) 0) (getD vals (n .b) 0) ≡ valueIn bytes nodes N ds k
+    at-or q =
+        let w = operands 5 q (formula ∷ formula ∷ []) refl in
+        ap₂ bitOr (truth-at-hand (n .a) (w .0) (w .1)) (truth-at-hand (n .b) (w .2 .0) (w .2 .1))
+        ∙ go (truthAt vs (n .a)) (truthAt vs (n .b)) ∙ sym (value-here 5 q)
+      where
+        go : (b c : Bool) → bitOr (bit b) (bit c) ≡ byteOf (truth (b || c))
+        go true true = refl
+        go true false = refl
+        go false true = refl
+        go false false = refl
+
+    -- there is no other op
+    pub no-other : (op : ℕ) → n .op ≡ op → operandSorts (opOf op) 0 ≡ none → ⊥
+    no-other op q e =
+        false≢true
+        (subst (λ (o : Option (List Sort)). fits (take k t) o (fieldsOf n) ≡ true) (ap (λ x. operandSorts (opOf x) 0) q ∙ e) (free-fits N P t (tab .free) k here))
+
+    -- one value more
+    pub value-more : (v : ℕ) → length vals ≡ 2632 → nodes ≤ 2632 → v ≡ valueIn bytes nodes N ds k → ValuesAre bytes nodes N ds (k + 1) (set vals k v)
+    value-more v long few e =
+        ap (λ m. take m (set vals k v)) (add-one k) ∙ take-suc-set vals k v (omega arith)
+        ∙ ap₂ {C = List ℕ} (λ xs x. xs ++ (x ∷ [])) known e
+        ∙ sym (map-append byteOf (take k vs) (valueAt vs k ∷ []))
+        ∙ ap (map byteOf) (sym (take-suc vs k (number 0) (let l = length-grown (nodeValue A []) t in omega (arith, here))))
+        ∙ ap (λ m. map byteOf (take m vs)) (sym (add-one k))
