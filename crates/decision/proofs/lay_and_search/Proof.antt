@@ -1,0 +1,123 @@
+-- The table is laid and measured; then the product is too big, or the places are searched. Assumes nothing.
+use borrow.Author.Needs.{needs}
+use native.Mathlib.Omega.{arith}
+use mathlib.Core.Path.{_≡_, refl, sym, ap, _∙_, subst}
+use Prim.Native.Nat.{ℕ, _≤_}
+use mathlib.Core.List.{List}
+use mathlib.Core.Option.{none}
+use lib.ListN.{length}
+use Rattle.definitions.specs.Ranges.{topsOf, product, padded}
+use Rattle.definitions.specs.Operations.Answers.{buffersRefusal}
+use Rattle.theorems.proofs.Accepted.{Accepted, accepted}
+use Rattle.elimination.proofs.Promising.{taken, table-laid}
+use Rattle.ranges.specs.Spans.{ProductIs}
+use Rattle.ranges.proofs.Measuring.{table-stands, tops-measured, product-measured}
+use Rattle.decision.proofs.Deciding.{buffers-taken, decide-big, decide-searched}
+use Rattle.decision.proofs.lay_and_search.Statement.{statement}
+use Rattle.decision.proofs.lay_and_search.Tie as tie
+
+module _ (c : tie.Start) where
+  abbrev bytes : List ℕ
+  bytes = c .args .problem .now
+
+  ok : Accepted bytes
+  ok = accepted bytes (c .pre .0)
+
+  fits : buffersRefusal bytes (length (c .args .work .now)) (length (c .args .witness .now)) ≡ none
+  fits = buffers-taken bytes (length (c .args .work .now)) (length (c .args .witness .now)) (taken bytes (length (c .args .work .now)) (c .pre .0) (c .pre .1)) (c .pre .2)
+
+lay-table-requires : tie.Need-lay-table-requires
+lay-table-requires c κs = (ok (c .before .before .before .before), c .before .before .before .before .pre .1)
+
+-- the table is laid
+module _ (c : tie.After-lay-table) where
+  abbrev start : tie.Start
+  start = c .before .before .before .before .before
+
+  abbrev work′ : List ℕ
+  work′ = c .lay-table .last .1 .0
+
+  long : 21056 ≤ length work′
+  long = let room = start .pre .1 in let same = c .lay-table .kept .1 .0 in omega arith
+
+measure-requires : tie.Need-measure-requires
+measure-requires c κs =
+    let l = c .before .before .before in
+    table-stands (bytes (start l)) (ok (start l)) (l .lay-table .ensures) (long l) (start l .pre .3) (start l .pre .4)
+
+-- and measured
+module _ (c : tie.After-measure) where
+  abbrev laid : tie.After-lay-table
+  laid = c .before .before .before .before
+
+  abbrev first : tie.Start
+  first = start laid
+
+  tops-are : c .measure .result .tops ≡ padded (topsOf (bytes first))
+  tops-are = tops-measured (bytes first) (ok first) (laid .lay-table .ensures) (long laid) (first .pre .3) (first .pre .4) (c .measure .ensures)
+
+  product-is : ProductIs (product (bytes first)) (c .measure .result .product)
+  product-is = product-measured (bytes first) (ok first) (laid .lay-table .ensures) (long laid) (first .pre .3) (first .pre .4) (c .measure .ensures)
+
+enum-told : tie.Need-enum-told
+enum-told c = search needs
+
+enum-known-size : tie.Need-enum-known-size
+enum-known-size c = search needs
+
+search-requires : tie.Need-search-requires
+search-requires c κs =
+    let m = c .before .before .before .before .before .before in
+    let s = first m in
+    let is = subst (ProductIs (product (bytes s))) (c .before .before .before .size .given .1) (product-is m) in (
+      record {
+        accepted = ok s;
+        work = s .args .work .now;
+        laid = laid m .lay-table .ensures;
+        table-long = long (laid m);
+        functions-are = s .pre .3;
+        predicates-are = s .pre .4;
+        tops-are = tops-are m;
+        places-are = is .0;
+      },
+      s .pre .2,
+    )
+
+same-length : tie.Need-same-length
+same-length c = search needs
+
+returns : tie.Need-returns
+returns c =
+    let m = c .before .before .before in
+    let s = first m in
+    decide-big (s .args .budget) (bytes s) (s .args .work .now) (s .args .witness .now) (fits s) (table-laid (bytes s) (ok s) (laid m .lay-table .ensures))
+    (subst (ProductIs (product (bytes s))) (c .enum-told .given .1) (product-is m))
+
+same-length-2 : tie.Need-same-length-2
+same-length-2 c = search needs
+
+same-length-3 : tie.Need-same-length-3
+same-length-3 c = search needs
+
+returns-2 : tie.Need-returns-2
+returns-2 c =
+    let m = c .before .before .before .before .before .before .before .before .before in
+    let s = first m in
+    let is = subst (ProductIs (product (bytes s))) (c .before .before .before .before .before .before .size .given .1) (product-is m) in
+    decide-searched (s .args .budget) (bytes s) (s .args .work .now) (s .args .witness .now) (fits s) (table-laid (bytes s) (ok s) (laid m .lay-table .ensures))
+    (is .1) (c .before .before .search .ensures)
+
+pub lay-and-search-spec : {M : Type 1} → statement M
+lay-and-search-spec =
+    tie.close
+    (tie.spec
+    lay-table-requires
+    measure-requires
+    enum-told
+    enum-known-size
+    search-requires
+    same-length
+    returns
+    same-length-2
+    same-length-3
+    returns-2)

@@ -1,0 +1,135 @@
+-- `write_witness` writes the head, then the rows one by one; after the last the witness is whole. Assumes nothing.
+use borrow.Author.Needs.{needs}
+use native.Mathlib.Omega.{arith}
+use mathlib.Core.Path.{_≡_, refl, sym, ap, _∙_, subst}
+use Prim.Native.Nat.{ℕ, _+_, _*_, _-_, _%_, _<_, _≤_}
+use mathlib.Core.List.{List, _++_}
+use lib.ListN.{length, drop}
+use Rattle.definitions.specs.Problem.Check.{nodeCount}
+use Rattle.elimination.proofs.Prefix.{apps-few}
+use Rattle.elimination.proofs.Promising.{shaped}
+use Rattle.decision.specs.Rows.{headBytes}
+use Rattle.decision.proofs.WitnessLaws.{Writing, rows-many, writing-none, writing-more, head-stands, witness-whole}
+use Rattle.decision.proofs.witness.write_witness.Statement.{statement}
+use Rattle.decision.proofs.witness.write_witness.Tie as tie
+
+abbrev Inv-loop : tie.InvT-loop
+Inv-loop problem all values witness₀ symbols nodes count i₀ witness i = Writing problem values witness₀ count witness i
+
+abbrev μ-loop : tie.MeasureT-loop
+μ-loop problem all values witness₀ symbols nodes count i₀ witness i = count - i
+
+few : (c : tie.Start Inv-loop μ-loop) → c .args .all .count ≤ 40
+few c =
+    let s = c .args .problem .now in
+    omega (arith, apps-few s (c .pre .0) (nodeCount s) (omega arith), c .pre .1 .count-is)
+
+shared-slice-read-wide : tie.Need-shared-slice-read-wide Inv-loop μ-loop
+shared-slice-read-wide c = omega (arith, c .before .before .before .before .pre .0 .header)
+
+wide-requires : tie.Need-wide-requires Inv-loop μ-loop
+wide-requires c κs = search needs
+
+two-at-requires : tie.Need-two-at-requires Inv-loop μ-loop
+two-at-requires c κs = omega (arith, c .before .before .before .before .before .pre .0 .header)
+
+cast-put-head : tie.Need-cast-put-head Inv-loop μ-loop
+cast-put-head c = search needs
+
+put-head-requires : tie.Need-put-head-requires Inv-loop μ-loop
+put-head-requires c κs = let room = c .before .before .before .before .before .before .before .pre .3 in omega arith
+
+-- after the head
+module _ (c : tie.After-put-head Inv-loop μ-loop) where
+  abbrev start : tie.Start Inv-loop μ-loop
+  start = c .before .before .before .before .before .before .before .before
+
+  abbrev count : ℕ
+  count = start .args .all .count
+
+  abbrev w₀ : List ℕ
+  w₀ = c .put-head .last .0
+
+  head-put : w₀ ≡ headBytes count ++ drop 6 (start .args .witness .now)
+  head-put =
+      c .put-head .ensures
+      ∙ ap (λ k. headBytes k ++ drop 6 (start .args .witness .now)) (let f = few start in let e : count % 256 ≡ count = omega arith in e)
+
+  same-room : length w₀ ≡ length (start .args .witness .now)
+  same-room = c .put-head .kept .0
+
+loop-holds : tie.Need-loop-holds Inv-loop μ-loop
+loop-holds c =
+    let put = c .before .before in
+    let s = start put in
+    let problem = s .args .problem .now in
+    writing-none problem (s .args .values .now) (w₀ put) (count put) (rows-many problem (s .pre .0) (s .args .all) (s .pre .1)) (w₀ put) refl
+    (head-stands (count put) (s .args .witness .now) (w₀ put) (head-put put))
+
+write-row-requires : tie.Need-write-row-requires Inv-loop μ-loop
+write-row-requires c κs =
+    let l = c .before .before .loop in
+    let put = c .before .before .before .before .before in
+    let s = start put in
+    let room = s .pre .3 in
+    let same = same-room put in
+    let long = l .inv .long in (
+      s .pre .0,
+      shaped (s .pre .0) (c .before .before .before .before .before .before .before .before .wide .ensures .0) (c .before .before .before .before .before .before .before .two-at .ensures .0),
+      s .pre .1,
+      c .before .loop-test .taken,
+      s .pre .2,
+      omega arith,
+    )
+
+add-i : tie.Need-add-i Inv-loop μ-loop
+add-i c = let f = few (start (c .before .before .before .before .before .before .before .before)) in let t = c .before .before .before .before .loop-test .taken in omega arith
+
+loop-less : tie.Need-loop-less Inv-loop μ-loop
+loop-less c = omega arith
+
+loop-again : tie.Need-loop-again Inv-loop μ-loop
+loop-again c =
+    let l = c .before .before .before .before .before .loop in
+    let put = c .before .before .before .before .before .before .before .before in
+    let s = start put in
+    writing-more (s .args .problem .now) (s .args .values .now) (w₀ put) (count put) (l .witness) (l .i) (l .inv) _ (c .before .before .before .before .loop-test .taken)
+    (c .before .before .write-row .kept .1 .1 .1 .1 .1 .1 .0) (c .before .before .write-row .ensures)
+
+mul-result : tie.Need-mul-result Inv-loop μ-loop
+mul-result c = let f = few (start (c .before .before .before .before)) in omega arith
+
+add-result : tie.Need-add-result Inv-loop μ-loop
+add-result c = let f = few (start (c .before .before .before .before)) in omega arith
+
+same-length : tie.Need-same-length Inv-loop μ-loop
+same-length c = c .before .loop .inv .long ∙ same-room (c .before .before .before .before)
+
+returns : tie.Need-returns Inv-loop μ-loop
+returns c =
+    let l = c .before .loop in
+    let put = c .before .before .before .before in
+    let s = start put in
+    witness-whole (count put) (s .args .witness .now) (w₀ put) (head-put put) (s .args .problem .now) (s .args .values .now) (l .witness) (l .i) (l .inv)
+    (c .loop-test .left)
+
+pub write-witness-spec : {M : Type 1} → statement M
+write-witness-spec =
+    tie.close
+    (tie.spec
+    Inv-loop
+    μ-loop
+    shared-slice-read-wide
+    wide-requires
+    two-at-requires
+    cast-put-head
+    put-head-requires
+    loop-holds
+    write-row-requires
+    add-i
+    loop-less
+    loop-again
+    mul-result
+    add-result
+    same-length
+    returns)

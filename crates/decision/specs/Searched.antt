@@ -1,0 +1,31 @@
+-- What is at hand when the places are searched, and what the search answers. Assumes nothing.
+use mathlib.Core.Path.{_≡_}
+use Prim.Native.Nat.{ℕ, _≤_}
+use mathlib.Core.List.{List}
+use lib.ListN.{length}
+use Rattle.definitions.specs.Problem.Check.{nodesOf, functionsIn, predicatesIn}
+use Rattle.definitions.specs.Ranges.{topsOf, product, padded}
+use Rattle.definitions.specs.Verdict.{outcomeOf}
+use Rattle.definitions.specs.Operations.Answers.{given, decided}
+use Rattle.definitions.specs.Operations.Buffers.{witnessWritten}
+use Rattle.definitions.specs.Operations.Readings.{decisionRead}
+use Rattle.definitions.specs.declared.Decision.{Decision}
+use Rattle.theorems.proofs.Accepted.{Accepted}
+use Rattle.elimination.specs.State.{AllLaid}
+use Rattle.elimination.specs.declared.laid.Laid.{Laid}
+
+-- an accepted problem whose table is laid and measured
+pub record Laying (s table : List ℕ) (all : Laid) (tops : List ℕ) (functions predicates places : ℕ) : Type 0 where
+  pub accepted : Accepted s
+  pub work : List ℕ
+  pub laid : AllLaid s work all table
+  pub table-long : 21056 ≤ length table
+  pub functions-are : functions ≡ functionsIn (nodesOf s)
+  pub predicates-are : predicates ≡ predicatesIn (nodesOf s)
+  pub tops-are : tops ≡ padded (topsOf s)
+  pub places-are : places ≡ product s
+
+-- the search answers the outcome, and writes the witness where it is falsified
+pub record SearchIs (budget : ℕ) (s witness : List ℕ) (r : Decision) (witness′ : List ℕ) : Type 0 where
+  pub answers : decisionRead r ≡ given (decided s (outcomeOf s budget))
+  pub witness-after : witness′ ≡ witnessWritten s (outcomeOf s budget) witness

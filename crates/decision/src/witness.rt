@@ -1,0 +1,101 @@
+// The witness: the letters EQW, version 1, the row count, and a row of five bytes for each distinct application in node order.
+ghost use mathlib.Core.Path.{_≡_};
+ghost use mathlib.Core.List.{_++_};
+ghost use mathlib.Core.Bool.{cond};
+ghost use Prim.Native.Nat.{_+_, _*_, _<_, _≤_};
+ghost use lib.ListN.{length, getD, drop};
+ghost use Rattle.definitions.specs.Problem.Check.{nodeCount};
+ghost use Rattle.definitions.specs.Witness.{rowBytes};
+ghost use Rattle.theorems.proofs.Accepted.{Accepted};
+ghost use Rattle.problem.specs.Shape.{Shaped};
+ghost use Rattle.elimination.specs.State.{LaidAt};
+ghost use Rattle.decision.specs.Rows.{rowOf5, headBytes, RowWritten, WitnessWritten};
+use elimination::copies::images_of;
+use elimination::laid::Laid;
+use problem::bytes::two_at;
+use problem::bytes::wide;
+use problem::nodes::arity_of;
+use problem::nodes::node_at;
+
+const EQW: [u8; 3] = *b"EQW";
+
+// The mark, the version and the row count.
+fn put_head(witness: &mut [u8], rows: u8)
+    requires { ⌜ 6 ≤ length (now witness) ⌝ }
+    ensures { λ r. ⌜ now (witness .exit) ≡ headBytes rows ++ drop 6 (now (witness .entry)) ⌝ }
+{
+    witness[0] = EQW[0];
+    witness[1] = EQW[1];
+    witness[2] = EQW[2];
+    witness[3] = 1;
+    witness[4] = 0;
+    witness[5] = rows;
+}
+
+// A row goes to the start of a lent tail.
+fn put_row(tail: &mut [u8], symbol: u8, x: u8, y: u8, z: u8, value: u8)
+    requires { ⌜ 5 ≤ length (now tail) ⌝ }
+    ensures { λ r. ⌜ now (tail .exit) ≡ rowBytes (rowOf5 symbol x y z value) ++ drop 5 (now (tail .entry)) ⌝ }
+{
+    tail[0] = symbol;
+    tail[1] = x;
+    tail[2] = y;
+    tail[3] = z;
+    tail[4] = value;
+}
+
+// The value of an argument is that of its image, and 0 where the field is unused.
+fn argument(values: &[u8], used: bool, image: usize) -> u8
+    requires { ⌜ image < length (now values) ⌝ }
+    ensures { λ r. ⌜ r ≡ cond used (getD (now (values .entry)) image 0) 0 ⌝ }
+{
+    if used {
+        return values[image];
+    }
+    0
+}
+
+// Row i: the symbol, the values of the arguments' images, the value of the application's image.
+fn write_row(
+    problem: &[u8],
+    symbols: usize,
+    nodes: usize,
+    all: Laid,
+    i: usize,
+    values: &[u8],
+    witness: &mut [u8],
+)
+    requires { ⌜ Accepted (now problem) × Shaped (now problem) symbols nodes × LaidAt (now problem) (nodeCount (now problem)) all × (i < all .count) × (length (now values) ≡ 2632) × (206 ≤ length (now witness)) ⌝ }
+    ensures { λ r. ⌜ RowWritten (now (problem .entry)) i (now (values .entry)) (now (witness .entry)) (now (witness .exit)) ⌝ }
+{
+    let images = all.images;
+    let apps = all.apps;
+    let q = apps[i];
+    let symbol = problem[node_at(symbols, q) + 1];
+    let arity = arity_of(problem, symbols, nodes, wide(symbol));
+    let xs = images_of(problem, symbols, nodes, nodes, q, &images);
+    let x = argument(values, 0 < arity, xs[0]);
+    let y = argument(values, 1 < arity, xs[1]);
+    let z = argument(values, 2 < arity, xs[2]);
+    let image = images[q];
+    let value = values[image];
+    let at = 6 + 5 * i;
+    put_row(&mut witness[at..], symbol, x, y, z, value);
+}
+
+// The whole witness; its length.
+pub fn write_witness(problem: &[u8], all: Laid, values: &[u8], witness: &mut [u8]) -> usize
+    requires { ⌜ Accepted (now problem) × LaidAt (now problem) (nodeCount (now problem)) all × (length (now values) ≡ 2632) × (206 ≤ length (now witness)) ⌝ }
+    ensures { λ r. ⌜ WitnessWritten (now (problem .entry)) (now (values .entry)) (now (witness .entry)) r (now (witness .exit)) ⌝ }
+{
+    let symbols = wide(problem[5]);
+    let nodes = two_at(problem, 6);
+    let count = all.count;
+    put_head(witness, (count % 256) as u8);
+    let mut i = 0;
+    while i < count {
+        write_row(problem, symbols, nodes, all, i, values, witness);
+        i += 1;
+    }
+    6 + 5 * count
+}
