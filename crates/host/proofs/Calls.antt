@@ -1,0 +1,56 @@
+-- What the call from C leaves: nothing but its 0 where the answer buffer is short, else what decide promises and the answer's
+-- bytes. Assumes nothing.
+use mathlib.Core.Path.{_≡_, sym, ap, _∙_}
+use Prim.Native.Nat.{ℕ, _≤_, _<_}
+use mathlib.Core.List.{List}
+use lib.ListN.{length}
+use borrow.Author.Tests.{lt-ltb, le-ltb}
+use Rattle.definitions.specs.Operations.Answers.{decideAnswer}
+use Rattle.definitions.specs.Operations.Buffers.{over, workAfterDecide, witnessAfter}
+use Rattle.definitions.specs.Operations.Host.{HostOutcome, hostOutcome, answerBytes}
+use Rattle.definitions.specs.Operations.Readings.{decisionRead}
+use Rattle.definitions.specs.Operations.Promises.{DecidePromise, HostPromise}
+use Rattle.definitions.specs.declared.Decision.{Decision}
+
+module _ (budget : ℕ) (s work witness answer : List ℕ) where
+  abbrev outcome : HostOutcome
+  outcome = hostOutcome budget s work witness answer
+
+  -- the two arms of the outcome
+  untouched : length answer < 32 → outcome ≡ record { returned = 0; work = work; witness = witness; answer = answer }
+  unfolding hostOutcome
+  untouched h = rw (lt-ltb (length answer) 32 h, hostOutcome)
+
+  pub short-answer : length answer < 32 → HostPromise budget s work witness answer 0 work witness answer
+  short-answer h =
+      let e = sym (untouched h) in
+      record {
+        returns = ap (λ (o : HostOutcome). o .returned) e;
+        work-after = ap (λ (o : HostOutcome). o .work) e;
+        witness-after = ap (λ (o : HostOutcome). o .witness) e;
+        answer-after = ap (λ (o : HostOutcome). o .answer) e;
+      }
+
+  laid : 32 ≤ length answer
+      → outcome
+      ≡ record {
+        returned = 1;
+        work = workAfterDecide s work (length witness);
+        witness = witnessAfter s budget (length work) witness;
+        answer = over (answerBytes (decideAnswer s budget (length work) (length witness))) answer;
+      }
+  unfolding hostOutcome
+  laid h = rw (le-ltb (length answer) 32 h, hostOutcome)
+
+  pub answer-laid : {d : Decision} {bytes work′ witness′ answer′ : List ℕ} → 32 ≤ length answer
+      → DecidePromise budget s work witness d work′ witness′ → bytes ≡ answerBytes (decisionRead d)
+      → answer′ ≡ over bytes answer → HostPromise budget s work witness answer 1 work′ witness′ answer′
+  answer-laid h p q w =
+      let e = sym (laid h) in
+      record {
+        returns = ap (λ (o : HostOutcome). o .returned) e;
+        work-after = p .work-after ∙ ap (λ (o : HostOutcome). o .work) e;
+        witness-after = p .witness-after ∙ ap (λ (o : HostOutcome). o .witness) e;
+        answer-after =
+            w ∙ ap (λ (b : List ℕ). over b answer) (q ∙ ap answerBytes (p .answers)) ∙ ap (λ (o : HostOutcome). o .answer) e;
+      }

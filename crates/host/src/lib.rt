@@ -1,0 +1,169 @@
+// The call from C: `eqp_decide` decides, and lays the answer down in 32 bytes, low byte first.
+ghost use mathlib.Core.Path.{_≡_};
+ghost use mathlib.Core.List.{_++_};
+ghost use Prim.Native.Nat.{_≤_};
+ghost use lib.ListN.{length, drop};
+ghost use Rattle.definitions.specs.Bytes.{bytesOf};
+ghost use Rattle.definitions.specs.Operations.Host.{answerBytes, thirtyTwo};
+ghost use Rattle.definitions.specs.Operations.Buffers.{over};
+ghost use Rattle.definitions.specs.Operations.Readings.{refusalRead, decisionRead};
+ghost use Rattle.definitions.specs.Operations.Promises.{HostPromise};
+ghost use Rattle.host.specs.Replies.{headBytes, replyBytes};
+use decision::decide;
+use definitions::Decision;
+use definitions::Refusal;
+
+// The six numbers of the answer.
+struct Reply {
+    verdict: u8,
+    refusal: u8,
+    written: usize,
+    place: usize,
+    tried: u64,
+    product: u64,
+}
+
+#[no_mangle]
+pub extern "C" fn eqp_decide(
+    budget: u64,
+    problem: &[u8],
+    work: &mut [u8],
+    witness: &mut [u8],
+    answer: &mut [u8],
+) -> u32
+    ensures { λ r. ⌜ HostPromise budget (now (problem .entry)) (now (work .entry)) (now (witness .entry)) (now (answer .entry)) r (now (work .exit)) (now (witness .exit)) (now (answer .exit)) ⌝ }
+{
+    if answer.len() < 32 {
+        return 0;
+    }
+    let decision = decide(budget, problem, work, witness);
+    put_reply(answer, reply_of(decision));
+    1
+}
+
+// A refusal has no values, and an answer no refusal.
+fn reply_of(decision: Decision) -> Reply
+    ensures { λ r. ⌜ replyBytes r ≡ answerBytes (decisionRead decision) ⌝ }
+{
+    match decision {
+        Decision::Valid { tried, product } => answered(1, tried, product, 0),
+        Decision::Falsified {
+            tried,
+            product,
+            written,
+        } => answered(2, tried, product, written),
+        Decision::Stopped { tried, product } => answered(3, tried, product, 0),
+        Decision::Refused(refusal) => Reply {
+            verdict: 0,
+            refusal: number_of(refusal),
+            written: 0,
+            place: place_of(refusal),
+            tried: 0,
+            product: 0,
+        },
+    }
+}
+
+// An answer's reply, by its verdict byte.
+fn answered(verdict: u8, tried: u64, product: u64, written: usize) -> Reply
+    ensures { λ r. ⌜ replyBytes r ≡ thirtyTwo verdict 0 written 0 tried product ⌝ }
+{
+    Reply {
+        verdict,
+        refusal: 0,
+        written,
+        place: 0,
+        tried,
+        product,
+    }
+}
+
+// The refusal's number.
+fn number_of(refusal: Refusal) -> u8
+    ensures { λ r. ⌜ r ≡ refusalRead refusal .number ⌝ }
+{
+    match refusal {
+        Refusal::TooShort => 1,
+        Refusal::NotEqp => 2,
+        Refusal::BadVersion => 3,
+        Refusal::BadCounts => 4,
+        Refusal::BadLength => 5,
+        Refusal::BadSymbol(_) => 6,
+        Refusal::BadNode(_) => 7,
+        Refusal::TermAsked => 8,
+        Refusal::ManyFunctions => 9,
+        Refusal::ManyPredicates => 10,
+        Refusal::ShortWork => 11,
+        Refusal::ShortWitness => 12,
+        Refusal::BigProduct => 13,
+    }
+}
+
+// Two refusals have a place; it is 0 for the others.
+fn place_of(refusal: Refusal) -> usize
+    ensures { λ r. ⌜ r ≡ refusalRead refusal .place ⌝ }
+{
+    match refusal {
+        Refusal::TooShort => 0,
+        Refusal::NotEqp => 0,
+        Refusal::BadVersion => 0,
+        Refusal::BadCounts => 0,
+        Refusal::BadLength => 0,
+        Refusal::BadSymbol(k) => k,
+        Refusal::BadNode(k) => k,
+        Refusal::TermAsked => 0,
+        Refusal::ManyFunctions => 0,
+        Refusal::ManyPredicates => 0,
+        Refusal::ShortWork => 0,
+        Refusal::ShortWitness => 0,
+        Refusal::BigProduct => 0,
+    }
+}
+
+// The 32 bytes, at the start of the answer buffer.
+fn put_reply(answer: &mut [u8], reply: Reply)
+    requires { ⌜ 32 ≤ length (now answer) ⌝ }
+    ensures { λ r. ⌜ now (answer .exit) ≡ over (replyBytes reply) (now (answer .entry)) ⌝ }
+{
+    put_head(answer, reply.verdict, reply.refusal, reply.written);
+    put_eight(&mut answer[8..], reply.place as u64);
+    put_eight(&mut answer[16..], reply.tried);
+    put_eight(&mut answer[24..], reply.product);
+}
+
+// The first eight bytes: verdict, refusal number, four zeros and the witness's length.
+fn put_head(answer: &mut [u8], verdict: u8, refusal: u8, written: usize)
+    requires { ⌜ 8 ≤ length (now answer) ⌝ }
+    ensures { λ r. ⌜ now (answer .exit) ≡ headBytes verdict refusal written ++ drop 8 (now (answer .entry)) ⌝ }
+{
+    answer[0] = verdict;
+    answer[1] = refusal;
+    answer[2] = 0;
+    answer[3] = 0;
+    answer[4] = 0;
+    answer[5] = 0;
+    answer[6] = (written % 256) as u8;
+    answer[7] = (written / 256 % 256) as u8;
+}
+
+// A number goes to the start of a lent tail.
+fn put_eight(tail: &mut [u8], n: u64)
+    requires { ⌜ 8 ≤ length (now tail) ⌝ }
+    ensures { λ r. ⌜ now (tail .exit) ≡ bytesOf 8 n ++ drop 8 (now (tail .entry)) ⌝ }
+{
+    let n1 = n / 256;
+    let n2 = n1 / 256;
+    let n3 = n2 / 256;
+    let n4 = n3 / 256;
+    let n5 = n4 / 256;
+    let n6 = n5 / 256;
+    let n7 = n6 / 256;
+    tail[0] = (n % 256) as u8;
+    tail[1] = (n1 % 256) as u8;
+    tail[2] = (n2 % 256) as u8;
+    tail[3] = (n3 % 256) as u8;
+    tail[4] = (n4 % 256) as u8;
+    tail[5] = (n5 % 256) as u8;
+    tail[6] = (n6 % 256) as u8;
+    tail[7] = (n7 % 256) as u8;
+}
