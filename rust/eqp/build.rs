@@ -1,0 +1,21 @@
+//! Links the proved static library, `target/staticlib/libhost.a` of the repository root.
+
+use std::env;
+use std::path::PathBuf;
+
+fn main() {
+    println!("cargo:rerun-if-changed=build.rs");
+    if env::var_os("CARGO_FEATURE_SELF_CHECK").is_some() {
+        return;
+    }
+    let manifest = env::var_os("CARGO_MANIFEST_DIR").expect("cargo names the manifest's directory");
+    let directory = PathBuf::from(manifest).join("../../target/staticlib");
+    let archive = directory.join("libhost.a");
+    println!("cargo:rerun-if-changed={}", archive.display());
+    println!("cargo:rustc-link-search=native={}", directory.display());
+    println!("cargo:rustc-link-lib=static=host");
+    if !archive.exists() {
+        println!("cargo:warning={} is not there", archive.display());
+        println!("cargo:warning=`rt staticlib host` makes it; --features self-check does without");
+    }
+}

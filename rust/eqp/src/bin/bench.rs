@@ -1,0 +1,202 @@
+//! Times the proved library against the reference, and against z3 where that is installed.
+//!
+//! Ratios are the reference's time over the library's: above 1 the library is the faster one.
+
+use std::hint::black_box;
+use std::io::{self, Write};
+use std::process::{Command, Stdio};
+use std::thread;
+use std::time::{Duration, Instant};
+
+use eqp::reference::check;
+use eqp::workloads::{self, Workload};
+use eqp::{host, reference, smt, Answer, WITNESS_LEN, WORK_LEN};
+
+/// How often each side is timed; the median counts.
+const ROUNDS: usize = 15;
+/// How long one timing takes at least.
+const TIMING: Duration = Duration::from_millis(12);
+/// How many small jobs there are.
+const JOBS: usize = 100_000;
+
+type Decide = fn(u64, &[u8], &mut [u8], &mut [u8]) -> Answer;
+
+/// The buffers of one side.
+struct Side {
+    decide: Decide,
+    work: Vec<u8>,
+    witness: Vec<u8>,
+}
+
+impl Side {
+    fn new(decide: Decide) -> Self {
+        Self {
+            decide,
+            work: vec![0; WORK_LEN],
+            witness: vec![0; WITNESS_LEN],
+        }
+    }
+
+    fn decide(&mut self, budget: u64, problem: &[u8]) -> Answer {
+        let answer = (self.decide)(
+            budget,
+            black_box(problem),
+            &mut self.work,
+            &mut self.witness,
+        );
+        black_box(answer)
+    }
+
+    /// The time of so many walks.
+    fn time(&mut self, workload: &Workload, walks: u64) -> Duration {
+        let start = Instant::now();
+        for _ in 0..walks {
+            self.decide(workload.budget, &workload.problem);
+        }
+        start.elapsed()
+    }
+
+    /// The time of all jobs.
+    fn time_jobs(&mut self, jobs: &[Vec<u8>]) -> Duration {
+        let start = Instant::now();
+        for job in jobs {
+            self.decide(u64::MAX, job);
+        }
+        start.elapsed()
+    }
+}
+
+fn main() {
+    let mut library = Side::new(host::decide);
+    let mut reference = Side::new(reference::decide);
+    if cfg!(feature = "self-check") {
+        println!("self-check: the library's place is taken by the reference");
+    }
+    let ratios = bench_tables(&mut library, &mut reference);
+    bench_jobs(&mut library, &mut reference);
+    let mean = ratios.iter().map(|ratio| ratio.ln()).sum::<f64>() / ratios.len() as f64;
+    println!("geometric mean {:.2}", mean.exp());
+}
+
+/// Prints a line for each table, and gives the ratios.
+fn bench_tables(library: &mut Side, reference: &mut Side) -> Vec<f64> {
+    println!(
+        "{:<28} {:>6} {:>5} {:>6} {:>8} {:>11} {:>11} {:>6}",
+        "table", "nodes", "vars", "truths", "places", "library ns", "reference", "ratio"
+    );
+    let tables = workloads::tables();
+    tables
+        .iter()
+        .map(|table| bench_table(library, reference, table))
+        .collect()
+}
+
+fn bench_table(library: &mut Side, reference: &mut Side, table: &Workload) -> f64 {
+    let answer = reference.decide(table.budget, &table.problem);
+    assert_eq!(library.decide(table.budget, &table.problem), answer);
+    let places = match answer {
+        Answer::Valid { tried, .. } | Answer::Stopped { tried, .. } => tried,
+        other => panic!("{} is {other:?}", table.name),
+    };
+    let slower = library.time(table, 1).max(reference.time(table, 1));
+    let walks = 1 + (TIMING.as_nanos() / slower.as_nanos().max(1)) as u64;
+    let (ours, theirs) = medians(
+        || library.time(table, walks),
+        || reference.time(table, walks),
+    );
+    let per_place = |time: f64| time * 1e9 / (walks * places) as f64;
+    let (functions, truths) = counts(&table.problem);
+    println!(
+        "{:<28} {:>6} {:>5} {:>6} {:>8} {:>11.2} {:>11.2} {:>6.2}",
+        table.name,
+        table_nodes(reference, table),
+        functions,
+        truths,
+        places,
+        per_place(ours),
+        per_place(theirs),
+        theirs / ours
+    );
+    theirs / ours
+}
+
+/// The medians, in seconds, of timings taken in turn.
+fn medians(mut ours: impl FnMut() -> Duration, mut theirs: impl FnMut() -> Duration) -> (f64, f64) {
+    let (mut left, mut right) = (Vec::new(), Vec::new());
+    for _ in 0..ROUNDS {
+        left.push(ours());
+        right.push(theirs());
+    }
+    let median = |mut times: Vec<Duration>| {
+        times.sort();
+        times[times.len() / 2].as_secs_f64()
+    };
+    (median(left), median(right))
+}
+
+/// The distinct function and predicate applications of a problem.
+fn counts(problem: &[u8]) -> (usize, usize) {
+    let checked = check(problem).expect("a bench table is accepted");
+    (checked.functions, checked.predicates)
+}
+
+/// How many nodes the function-free table has: past it the work buffer stays.
+fn table_nodes(side: &mut Side, table: &Workload) -> usize {
+    side.work.fill(0xff);
+    side.decide(0, &table.problem);
+    let used = side.work.iter().rposition(|&byte| byte != 0xff);
+    used.map_or(0, |last| last / 8 + 1)
+}
+
+/// Prints how many small jobs each side does in a second.
+fn bench_jobs(library: &mut Side, reference: &mut Side) {
+    let jobs = workloads::small_jobs(JOBS);
+    let (ours, theirs) = medians(|| library.time_jobs(&jobs), || reference.time_jobs(&jobs));
+    let per_second = |time: f64| jobs.len() as f64 / time;
+    println!("{JOBS} small jobs, in jobs per second:");
+    println!("  library   {:>10.0}", per_second(ours));
+    println!("  reference {:>10.0}", per_second(theirs));
+    match bench_z3(reference, &jobs) {
+        Ok(time) => println!("  z3        {:>10.0}", per_second(time)),
+        Err(error) if error.kind() == io::ErrorKind::NotFound => {
+            println!("  z3 is not on the PATH")
+        }
+        Err(error) => println!("  z3 did not run: {error}"),
+    }
+}
+
+/// The seconds that one z3 process takes for the jobs, whose verdicts must be ours.
+fn bench_z3(reference: &mut Side, jobs: &[Vec<u8>]) -> io::Result<f64> {
+    let mut script = String::from(smt::PREAMBLE);
+    for job in jobs {
+        script += &smt::job(job).expect("a small job is accepted");
+    }
+    let start = Instant::now();
+    let output = run_z3(script)?;
+    let time = start.elapsed().as_secs_f64();
+    let wanted = jobs
+        .iter()
+        .map(|job| match reference.decide(u64::MAX, job) {
+            Answer::Valid { .. } => "unsat",
+            _ => "sat",
+        });
+    if output.lines().eq(wanted) {
+        Ok(time)
+    } else {
+        Err(io::Error::other("its verdicts are not ours"))
+    }
+}
+
+/// What z3 prints for a script.
+fn run_z3(script: String) -> io::Result<String> {
+    let mut z3 = Command::new("z3")
+        .arg("-in")
+        .stdin(Stdio::piped())
+        .stdout(Stdio::piped())
+        .spawn()?;
+    let mut input = z3.stdin.take().expect("z3's input is a pipe");
+    let writer = thread::spawn(move || input.write_all(script.as_bytes()));
+    let output = z3.wait_with_output()?;
+    writer.join().expect("the writer does not panic")?;
+    String::from_utf8(output.stdout).map_err(io::Error::other)
+}

@@ -1,0 +1,84 @@
+//! Equality jobs from a Rust host.
+//!
+//! A problem is a formula of equality with uninterpreted functions, as a table of nodes in bytes.
+//! [`host::decide`] hands it to the proved checker (`libhost.a`, made by `rt staticlib host`),
+//! which answers valid, falsified with tables that make the formula false, stopped where the
+//! budget ends first, or refused. [`reference::decide`] is a second implementation, written from
+//! document 01 alone; the tests compare the two on many generated problems.
+//!
+//! ```
+//! use eqp::problem::Problem;
+//! use eqp::{host, Answer, WITNESS_LEN, WORK_LEN};
+//!
+//! let mut p = Problem::new();
+//! let (x, y) = (p.function("x", 0), p.function("y", 0));
+//! let (x, y) = (p.apply(x, &[]), p.apply(y, &[]));
+//! p.equal(x, y);
+//! let (mut work, mut witness) = ([0; WORK_LEN], [0; WITNESS_LEN]);
+//! let answer = host::decide(u64::MAX, &p.bytes(), &mut work, &mut witness);
+//! assert_eq!(answer, Answer::Falsified { tried: 2, product: 2, witness_len: 16 });
+//! assert_eq!(p.explain(&witness), "x = 1, y = 2");
+//! ```
+//!
+//! From this directory, once `rt staticlib host` has made `target/staticlib/libhost.a`:
+//!
+//! - `cargo test --release` runs the worked rows, the comparison and the night run;
+//! - `cargo run --release --bin bench` times both implementations;
+//! - `cargo run --release --bin make_examples` writes the files of `examples/` anew.
+//!
+//! With `--features self-check` the reference takes the library's place, and nothing is linked.
+
+#![deny(unsafe_code)]
+#![warn(missing_docs)]
+
+pub mod host;
+pub mod jobs;
+pub mod problem;
+pub mod reference;
+pub mod samples;
+pub mod smt;
+pub mod workloads;
+
+/// The least length of a work buffer that is not refused: 2,632 nodes of 8 bytes.
+pub const WORK_LEN: usize = 21_056;
+
+/// The least length of a witness buffer that is not refused: 6 bytes and 40 rows of 5.
+pub const WITNESS_LEN: usize = 206;
+
+/// The least length of an answer buffer that the raw call takes.
+pub const ANSWER_LEN: usize = 32;
+
+/// What a decision answers.
+#[derive(Clone, Copy, Debug, PartialEq, Eq)]
+pub enum Answer {
+    /// The problem, a buffer or the product broke a condition.
+    Refused {
+        /// The refusal number, 1 to 13.
+        number: u8,
+        /// The first wrong symbol or node for refusals 6 and 7, else 0.
+        place: u64,
+    },
+    /// The formula is true at every place.
+    Valid {
+        /// The number of assignments evaluated, which is the product.
+        tried: u64,
+        /// The number of places.
+        product: u64,
+    },
+    /// The formula is false at the last place tried.
+    Falsified {
+        /// The number of assignments evaluated, which is the first false place.
+        tried: u64,
+        /// The number of places.
+        product: u64,
+        /// How many bytes of the witness buffer the witness takes.
+        witness_len: usize,
+    },
+    /// The budget ended before a false place or the last place.
+    Stopped {
+        /// The number of assignments evaluated, which is the budget.
+        tried: u64,
+        /// The number of places.
+        product: u64,
+    },
+}

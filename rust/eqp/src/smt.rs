@@ -1,0 +1,93 @@
+//! Problems as SMT-LIB, for a comparison with a solver.
+
+use std::fmt::Write;
+
+use crate::reference::{check, Checked, Node, Op, Refusal, Sort};
+
+/// What comes before the jobs: the logic, and the one sort of values.
+pub const PREAMBLE: &str = "(set-logic QF_UF)\n(declare-sort V 0)\n";
+
+/// One problem between push and pop: unsat says that it is valid, sat that it is falsified.
+///
+/// Each node becomes a definition `n` and its number. The values are of a sort of their own
+/// instead of whole numbers: a formula without quantifiers fails in some interpretation of the
+/// one kind if and only if it fails in one of the other.
+pub fn job(problem: &[u8]) -> Result<String, Refusal> {
+    let problem = check(problem)?;
+    let mut text = String::from("(push 1)\n");
+    for (number, &symbol) in problem.symbols.iter().enumerate() {
+        let arguments = ["V"; 3][..usize::from(symbol % 16)].join(" ");
+        let sort = if symbol < 16 { "V" } else { "Bool" };
+        line(
+            &mut text,
+            format_args!("(declare-fun s{number} ({arguments}) {sort})"),
+        );
+    }
+    for (number, node) in problem.nodes.iter().enumerate() {
+        let sort = match node.op.sort() {
+            Sort::Term => "V",
+            Sort::Formula => "Bool",
+        };
+        let meaning = meaning(&problem, node);
+        line(
+            &mut text,
+            format_args!("(define-fun n{number} () {sort} {meaning})"),
+        );
+    }
+    let root = problem.nodes.len() - 1;
+    line(
+        &mut text,
+        format_args!("(assert (not n{root}))\n(check-sat)\n(pop 1)"),
+    );
+    Ok(text)
+}
+
+fn line(text: &mut String, what: std::fmt::Arguments) {
+    writeln!(text, "{what}").expect("writing to memory");
+}
+
+fn meaning(problem: &Checked, node: &Node) -> String {
+    let arity = if node.op.is_application() {
+        problem.arity(node)
+    } else {
+        0
+    };
+    let head = match node.op {
+        Op::Apply | Op::Test => format!("s{}", node.symbol),
+        Op::Choose | Op::Select => "ite".into(),
+        Op::Equal => "=".into(),
+        Op::Not => "not".into(),
+        Op::And => "and".into(),
+        Op::Or => "or".into(),
+        Op::True => "true".into(),
+        Op::False => "false".into(),
+    };
+    let used = &node.operands[..node.op.takes(arity).len()];
+    if used.is_empty() {
+        return head;
+    }
+    let operands: String = used.iter().map(|operand| format!(" n{operand}")).collect();
+    format!("({head}{operands})")
+}
+
+#[cfg(test)]
+mod tests {
+    use super::*;
+    use crate::samples;
+
+    /// Row 9, by hand.
+    #[test]
+    fn row_nine() {
+        let wanted = "(push 1)\n\
+            (declare-fun s0 () Bool)\n\
+            (declare-fun s1 () V)\n\
+            (declare-fun s2 () V)\n\
+            (define-fun n0 () Bool s0)\n\
+            (define-fun n1 () V s1)\n\
+            (define-fun n2 () V s2)\n\
+            (define-fun n3 () V (ite n0 n1 n2))\n\
+            (define-fun n4 () Bool (= n3 n1))\n\
+            (assert (not n4))\n(check-sat)\n(pop 1)\n";
+        assert_eq!(job(&samples::row(9).bytes()).as_deref(), Ok(wanted));
+    }
+}

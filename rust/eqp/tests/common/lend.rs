@@ -1,0 +1,181 @@
+//! Calls of both sides with the same bytes in and around every buffer.
+
+use eqp::{host, reference, Answer, ANSWER_LEN, WITNESS_LEN, WORK_LEN};
+
+use super::rng::Rng;
+
+/// How many bytes stand on each side of a lent slice, less up to 7 on the left.
+const GUARD: usize = 24;
+
+/// The lengths of the lent buffers.
+#[derive(Clone, Copy, Debug)]
+pub struct Lengths {
+    pub work: usize,
+    pub witness: usize,
+    pub answer: usize,
+}
+
+impl Lengths {
+    /// Exactly what is wanted.
+    pub const EXACT: Self = Self {
+        work: WORK_LEN,
+        witness: WITNESS_LEN,
+        answer: ANSWER_LEN,
+    };
+
+    /// Mostly long enough: each buffer is exact, a byte short, empty, or longer.
+    pub fn any(rng: &mut Rng) -> Self {
+        let around = |rng: &mut Rng, exact: usize| match rng.below(24) {
+            0 => exact - 1,
+            1 => rng.below(exact),
+            2 => 0,
+            3..=12 => exact + rng.within(1, 40),
+            _ => exact,
+        };
+        Self {
+            work: around(rng, WORK_LEN),
+            witness: around(rng, WITNESS_LEN),
+            answer: match rng.below(24) {
+                0 => 0,
+                1 => ANSWER_LEN - 1,
+                2..=9 => 40,
+                _ => ANSWER_LEN,
+            },
+        }
+    }
+}
+
+/// A slice to lend, with guard bytes around it.
+#[derive(Clone, PartialEq, Eq)]
+struct Lent {
+    bytes: Vec<u8>,
+    start: usize,
+    length: usize,
+}
+
+impl Lent {
+    fn empty() -> Self {
+        Self {
+            bytes: Vec::new(),
+            start: 0,
+            length: 0,
+        }
+    }
+
+    /// Takes new bytes from the noise, at an odd place of the memory as often as not.
+    fn refill(&mut self, noise: &[u8], at: usize, length: usize) {
+        self.bytes.clear();
+        self.bytes
+            .extend_from_slice(&noise[at..at + length + 2 * GUARD]);
+        self.start = GUARD - at % 8;
+        self.length = length;
+    }
+
+    fn slice(&mut self) -> &mut [u8] {
+        &mut self.bytes[self.start..self.start + self.length]
+    }
+}
+
+/// The four buffers of one side: problem, work, witness, answer.
+#[derive(Clone, PartialEq, Eq)]
+struct Buffers([Lent; 4]);
+
+impl Buffers {
+    fn refill(&mut self, noise: &[u8], at: usize, problem: &[u8], lengths: Lengths) {
+        let all = [problem.len(), lengths.work, lengths.witness, lengths.answer];
+        for (lent, length) in self.0.iter_mut().zip(all) {
+            lent.refill(noise, at, length);
+        }
+        self.0[0].slice().copy_from_slice(problem);
+    }
+}
+
+/// What a call did, by the reference.
+pub struct Done<'a> {
+    /// What it answered; `None` where the answer buffer is too short.
+    pub answer: Option<Answer>,
+    /// The lent work buffer, before and after.
+    pub work: (&'a [u8], &'a [u8]),
+    /// The lent witness buffer, before and after.
+    pub witness: (&'a [u8], &'a [u8]),
+}
+
+/// Both sides, and the noise that their buffers start from.
+pub struct Lender {
+    noise: Vec<u8>,
+    ours: Buffers,
+    theirs: Buffers,
+}
+
+impl Lender {
+    pub fn new(rng: &mut Rng) -> Self {
+        let noise = (0..80_000).map(|_| rng.next() as u8).collect();
+        let buffers = Buffers(std::array::from_fn(|_| Lent::empty()));
+        Self {
+            noise,
+            ours: buffers.clone(),
+            theirs: buffers,
+        }
+    }
+
+    /// Calls both sides and compares what they return and every byte in and around the buffers.
+    pub fn call(
+        &mut self,
+        rng: &mut Rng,
+        budget: u64,
+        problem: &[u8],
+        lengths: Lengths,
+    ) -> Done<'_> {
+        let at = rng.below(1_000);
+        self.ours.refill(&self.noise, at, problem, lengths);
+        self.theirs.refill(&self.noise, at, problem, lengths);
+        let answer = by_reference(budget, &mut self.ours);
+        let returned = by_library(budget, &mut self.theirs);
+        if returned != u32::from(answer.is_some()) || self.ours != self.theirs {
+            self.differ(budget, lengths, answer, returned);
+        }
+        let before = |length: usize| &self.noise[at + GUARD - at % 8..][..length];
+        let [_, work, witness, _] = &mut self.ours.0;
+        Done {
+            answer,
+            work: (before(lengths.work), work.slice()),
+            witness: (before(lengths.witness), witness.slice()),
+        }
+    }
+
+    fn differ(&mut self, budget: u64, lengths: Lengths, answer: Option<Answer>, returned: u32) {
+        let names = ["problem", "work", "witness", "answer"];
+        for (i, name) in names.into_iter().enumerate() {
+            let (ours, theirs) = (&self.ours.0[i].bytes, &self.theirs.0[i].bytes);
+            if let Some(at) = ours.iter().zip(theirs).position(|(a, b)| a != b) {
+                let at = at as isize - self.ours.0[i].start as isize;
+                eprintln!("the {name} buffers differ from byte {at} on");
+            }
+        }
+        let theirs = self.theirs.0[3].slice().to_vec();
+        let problem = self.ours.0[0].slice();
+        panic!(
+            "budget {budget}, {lengths:?}, problem {problem:?}: the reference answers {answer:?}, \
+             the library returns {returned} with {theirs:?}"
+        );
+    }
+}
+
+fn by_reference(budget: u64, buffers: &mut Buffers) -> Option<Answer> {
+    let [problem, work, witness, answer] = &mut buffers.0;
+    let decided = (answer.length >= ANSWER_LEN)
+        .then(|| reference::decide(budget, problem.slice(), work.slice(), witness.slice()))?;
+    answer.slice()[..ANSWER_LEN].copy_from_slice(&host::encode(&decided));
+    Some(decided)
+}
+
+fn by_library(budget: u64, buffers: &mut Buffers) -> u32 {
+    let [problem, work, witness, answer] = &mut buffers.0;
+    host::raw_decide(
+        budget,
+        problem.slice(),
+        work.slice(),
+        witness.slice(),
+        answer.slice(),
+    )
+}

@@ -1,0 +1,163 @@
+//! The night run: document 01's sample, and the proved program against the reference.
+
+mod common;
+
+use std::env;
+use std::io::{self, Write};
+use std::path::{Path, PathBuf};
+use std::process::{Command, Stdio};
+use std::thread;
+
+use common::generate::{self, Shape};
+use common::refuse;
+use common::rng::Rng;
+use eqp::jobs::Jobs;
+use eqp::{reference, samples};
+
+/// How many jobs the stream has.
+const JOBS: usize = 10_000;
+/// At how many places it is cut.
+const CUTS: usize = 50;
+
+/// The lines of document 01.
+const SAMPLE: &str = "EQP NIGHT 1\n\
+    JOB 1 FALSIFIED 2 2\n\
+    JOB 2 STOPPED 3 4\n\
+    JOB 3 VALID 4 4\n\
+    JOB 4 REFUSED 1 0\n\
+    END 4\n";
+
+#[test]
+fn sample_by_the_reference() {
+    let lines = reference::night(samples::sample_night().bytes());
+    assert_eq!(String::from_utf8_lossy(&lines), SAMPLE);
+    assert_eq!(reference::night(&[]), b"EQP NIGHT 1\nEND 0\n");
+}
+
+/// The sample ends after its jobs of 10 + 34, 10 + 75, 10 + 75 and 10 bytes, and nowhere else.
+#[test]
+fn cut_sample_by_the_reference() {
+    let jobs = samples::sample_night();
+    let ends = [0, 44, 129, 214, 224];
+    assert_eq!(jobs.bytes().len(), 224);
+    for length in 0..=224 {
+        let whole = ends.iter().filter(|&&end| end <= length).count() - 1;
+        let word = if ends.contains(&length) { "END" } else { "CUT" };
+        let first: Vec<_> = SAMPLE.lines().take(1 + whole).collect();
+        let wanted = format!("{}\n{word} {whole}\n", first.join("\n"));
+        let lines = reference::night(&jobs.bytes()[..length]);
+        assert_eq!(String::from_utf8_lossy(&lines), wanted);
+    }
+}
+
+/// The proved program; `None`, and a word about it, where it has not been made or cannot be run.
+fn program() -> Option<PathBuf> {
+    if cfg!(feature = "self-check") {
+        return None;
+    }
+    let path = Path::new(env!("CARGO_MANIFEST_DIR")).join("../../target/bin/night");
+    if path.exists() {
+        return Some(path);
+    }
+    let absent = format!("{} is not there", path.display());
+    assert!(env::var_os("CI").is_none(), "{absent}");
+    // Straight to the error stream: what print macros write is kept back from passing tests.
+    let message = format!("skipped: {absent}\n");
+    let _ = io::stderr().write_all(message.as_bytes());
+    None
+}
+
+/// What the program prints for an input.
+fn run(program: &Path, input: &[u8]) -> Vec<u8> {
+    let mut child = Command::new(program)
+        .stdin(Stdio::piped())
+        .stdout(Stdio::piped())
+        .spawn()
+        .expect("the night program starts");
+    let mut stdin = child.stdin.take().expect("its input is a pipe");
+    let output = thread::scope(|scope| {
+        scope.spawn(move || stdin.write_all(input));
+        child.wait_with_output().expect("its output can be read")
+    });
+    let ended = output.status.code();
+    assert!(ended.is_some(), "the night program was killed: {output:?}");
+    output.stdout
+}
+
+fn expect_same(program: &Path, input: &[u8]) {
+    let (wanted, printed) = (reference::night(input), run(program, input));
+    if wanted != printed {
+        let same = wanted.iter().zip(&printed).take_while(|(a, b)| a == b);
+        let line = same.filter(|(&a, _)| a == b'\n').count();
+        let show = |all: &[u8]| {
+            let text = String::from_utf8_lossy(all).into_owned();
+            text.lines().nth(line).map(str::to_owned)
+        };
+        panic!(
+            "line {line} of {} bytes: the reference prints {:?}, the program {:?}",
+            input.len(),
+            show(&wanted),
+            show(&printed)
+        );
+    }
+}
+
+/// Jobs of all kinds, and where each ends.
+fn stream(rng: &mut Rng) -> (Jobs, Vec<usize>) {
+    let mut jobs = Jobs::new();
+    let mut ends = vec![0];
+    for _ in 0..JOBS {
+        let budget = rng.below(300) as u64;
+        jobs.push(budget, &job(rng));
+        ends.push(jobs.bytes().len());
+    }
+    (jobs, ends)
+}
+
+fn job(rng: &mut Rng) -> Vec<u8> {
+    let shape = match rng.below(20) {
+        0 => Shape::large(rng),
+        _ => Shape::small(rng),
+    };
+    let problem = generate::problem(rng, shape).bytes();
+    match rng.below(24) {
+        number @ 1..=8 => refuse::edit(rng, number as u8, &problem).0,
+        9 => refuse::many_functions(rng),
+        10 => refuse::many_predicates(rng),
+        11 => refuse::many_places(rng),
+        12 if rng.once_in(20) => vec![b'E'; rng.within(2_000, 65_535)],
+        _ => problem,
+    }
+}
+
+#[test]
+fn sample_by_the_program() {
+    if let Some(program) = program() {
+        let lines = run(&program, samples::sample_night().bytes());
+        assert_eq!(String::from_utf8_lossy(&lines), SAMPLE);
+        expect_same(&program, &[]);
+        expect_same(&program, samples::feedback_tap().bytes());
+    }
+}
+
+#[test]
+fn stream_by_the_program() {
+    let program = match program() {
+        Some(program) => program,
+        None => return,
+    };
+    let mut rng = Rng::new(2);
+    let (jobs, ends) = stream(&mut rng);
+    expect_same(&program, jobs.bytes());
+    for cut in 0..CUTS {
+        // Some near the start, some close to the end of a job, the rest anywhere.
+        let length = match cut % 5 {
+            0 => rng.below(2_000),
+            1 => *rng.pick(&ends),
+            2 => rng.pick(&ends).saturating_sub(1),
+            3 => (rng.pick(&ends) + rng.within(1, 10)).min(jobs.bytes().len()),
+            _ => rng.below(jobs.bytes().len()),
+        };
+        expect_same(&program, &jobs.bytes()[..length]);
+    }
+}
