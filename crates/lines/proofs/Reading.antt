@@ -45,40 +45,29 @@ module _ (head more : List ℕ) (ten : length head ≡ 10) where
       let e = same-two in
       ap₂ _&&_ (le-leb 10 (length (head ++ more)) (omega arith)) (lt-leb (10 + twoAt (head ++ more) 8) (length (head ++ more)) (omega arith))
 
--- where a line comes of a whole job, and where of a cut one
-step-whole : (fuel jobs : ℕ) (input : List ℕ) → whole input ≡ true → 0 < length input
-    → lines (suc fuel) jobs input ≡ jobLine (suc jobs) (budgetOf input) (problemOf input) ++ lines fuel (suc jobs) (afterJob input)
-step-whole fuel jobs [] e h = absurd (omega arith)
-step-whole fuel jobs (b ∷ bs) e h =
-    let input = b ∷ bs in
-    ap
-    (λ (w : Bool). elim w as (λ _. List ℕ) [
+-- what comes of an input that is not empty, by whether a whole job stands at its start
+abbrev onward : Bool → ℕ → ℕ → List ℕ → List ℕ
+onward w fuel jobs input =
+    elim w as (λ _. List ℕ) [
       | true ↦ jobLine (suc jobs) (budgetOf input) (problemOf input) ++ lines fuel (suc jobs) (afterJob input)
       | false ↦ closing CUT jobs
-    ])
-    e
+    ]
 
-step-cut : (fuel jobs : ℕ) (input : List ℕ) → whole input ≡ false → 0 < length input → lines (suc fuel) jobs input ≡ closing CUT jobs
-step-cut fuel jobs [] e h = absurd (omega arith)
-step-cut fuel jobs (b ∷ bs) e h =
-    let input = b ∷ bs in
-    ap
-    (λ (w : Bool). elim w as (λ _. List ℕ) [
-      | true ↦ jobLine (suc jobs) (budgetOf input) (problemOf input) ++ lines fuel (suc jobs) (afterJob input)
-      | false ↦ closing CUT jobs
-    ])
-    e
+step : (fuel jobs : ℕ) (input : List ℕ) {w : Bool} → whole input ≡ w → 0 < length input
+    → lines (suc fuel) jobs input ≡ onward w fuel jobs input
+step fuel jobs [] e h = absurd (omega arith)
+step fuel jobs (b ∷ bs) e h = ap (λ (w : Bool). onward w fuel jobs (b ∷ bs)) e
 
 pub run-lines : (fuel : ℕ) {jobs : ℕ} {input out : List ℕ} → Run jobs input out → length input ≤ fuel → lines fuel jobs input ≡ out
 run-lines zero ended h = refl
 run-lines (suc fuel) ended h = refl
 run-lines zero (cut-head head a b) h = absurd (omega arith)
 run-lines (suc fuel) {jobs} (cut-head head a b) h =
-    step-cut fuel jobs head (ap (λ (w : Bool). w && leb (10 + twoAt head 8) (length head)) (lt-leb 10 (length head) b)) a
+    step fuel jobs head (ap (λ (w : Bool). w && leb (10 + twoAt head 8) (length head)) (lt-leb 10 (length head) b)) a
 run-lines zero (cut-problem head problem a b) h = let l = length-append head problem in absurd (omega arith)
 run-lines (suc fuel) {jobs} (cut-problem head problem a b) h =
     let l = length-append head problem in
-    step-cut fuel jobs (head ++ problem) (lacks head problem a b) (omega arith)
+    step fuel jobs (head ++ problem) (lacks head problem a b) (omega arith)
 run-lines zero (answered head problem {rest} a b r) h =
     let l = length-append head (problem ++ rest) in absurd (omega arith)
 run-lines (suc fuel) {jobs} (answered head problem {rest} a b r) h =
@@ -93,7 +82,7 @@ run-lines (suc fuel) {jobs} (answered head problem {rest} a b r) h =
     sym (drop-drop (twoAt (head ++ more) 8) 10 (head ++ more)) ∙ ap₂ {C = List ℕ} drop e (behind head more a)
     ∙ drop-at problem rest (twoAt head 8) b
     in
-    step-whole fuel jobs (head ++ more) (fits head more a (omega arith)) (omega arith)
+    step fuel jobs (head ++ more) (fits head more a (omega arith)) (omega arith)
     ∙ ap₂ {C = List ℕ} (λ x y. x ++ y) (ap₂ (jobLine (suc jobs)) (same-budget head more a) taken)
     (ap (lines fuel (suc jobs)) left ∙ run-lines fuel r (omega arith))
 

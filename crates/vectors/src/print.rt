@@ -53,10 +53,13 @@ fn spaced(all: &[u8], base: Base) {
 fn one(value: u8, base: Base) {
     text(b" ");
     match base {
-        Base::Ten => io::print_decimal(STDOUT_FILENO, value as u64),
-        Base::Sixteen => io::print_hex(STDOUT_FILENO, value as u64, 2),
+        Base::Ten => {
+            io::print_decimal(STDOUT_FILENO, value as u64);
+        }
+        Base::Sixteen => {
+            io::print_hex(STDOUT_FILENO, value as u64, 2);
+        }
     }
-    ;
 }
 
 // A refusal's line ends with its number and its place.
