@@ -1,5 +1,9 @@
 pub mod Turns
 pub mod Carrying
+pub mod Filling
+pub mod Placing
 pub mod Values
-pub mod Reading
+pub mod Branching
+pub mod Laying
+pub mod Solving
 pub mod Walking

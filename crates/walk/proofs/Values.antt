@@ -9,7 +9,6 @@ use mathlib.Core.Option.{Option, none, some}
 use lib.ListN.{length, getD, take, set, List·getD-map}
 use lib.Seq.{getD-take, length-take-le, take-suc, take-suc-set}
 use lib.Dec.{eqb}
-use lib.Bits.{bitAnd, bitOr}
 use borrow.Author.Tests.{eq-eqb, ne-eqb}
 use Rattle.definitions.specs.Problem.Node.{Node, node, noNode, nodeAt, nodesAt}
 use Rattle.definitions.specs.Problem.Ops.{opOf, Sort, term, formula, sortOf, operandSorts, fits, countOf, fieldsOf}
@@ -59,7 +58,7 @@ module _ (bytes : List ℕ) (nodes N P : ℕ) (tab : TableIn bytes nodes N P) (d
       let v = e ∙ op-truth A vs (opOf (node t i .op)) (node t i) _ s ∙ ap (λ (w : Value). truth (truthOf w)) (sym e) in
       ap byteOf v ∙ byte-truth (truthAt vs i)
 
-  module _ (k : ℕ) (below : k < nodes) (vals : List ℕ) (known : ValuesAre bytes nodes N ds k vals) where
+  module _ (k : ℕ) (below : k < nodes) (val : ℕ → ℕ) (known : (i : ℕ) → i < k → val i ≡ valueIn bytes nodes N ds i) where
     abbrev n : Node
     n = node t k
 
@@ -90,17 +89,11 @@ module _ (bytes : List ℕ) (nodes N P : ℕ) (tab : TableIn bytes nodes N P) (d
         (operands-sorted (take k t) ss (fieldsOf n)
         (subst (λ (o : Option (List Sort)). fits (take k t) o (fieldsOf n) ≡ true) (ap (λ x. operandSorts (opOf x) 0) q ∙ e) (free-fits N P t (tab .free) k here)))
 
-    -- the value at hand of an earlier node
-    at-hand : (i : ℕ) → i < k → getD vals i 0 ≡ byteOf (valueAt vs i)
-    at-hand i h =
-        sym (getD-take k vals i 0 h) ∙ ap (λ xs. getD xs i 0) known ∙ List·getD-map byteOf (take k vs) i (number 0)
-        ∙ ap byteOf (getD-take k vs i (number 0) h)
+    number-at-hand : (i : ℕ) → i < k → sortAt t i ≡ term → val i ≡ numberAt vs i
+    number-at-hand i h s = known i h ∙ number-byte i (omega arith) s
 
-    number-at-hand : (i : ℕ) → i < k → sortAt t i ≡ term → getD vals i 0 ≡ numberAt vs i
-    number-at-hand i h s = at-hand i h ∙ number-byte i (omega arith) s
-
-    truth-at-hand : (i : ℕ) → i < k → sortAt t i ≡ formula → getD vals i 0 ≡ bit (truthAt vs i)
-    truth-at-hand i h s = at-hand i h ∙ truth-byte i (omega arith) s
+    truth-at-hand : (i : ℕ) → i < k → sortAt t i ≡ formula → val i ≡ bit (truthAt vs i)
+    truth-at-hand i h s = known i h ∙ truth-byte i (omega arith) s
 
     -- node k by the number of its op
     value-here : (op : ℕ) → n .op ≡ op
@@ -149,8 +142,8 @@ module _ (bytes : List ℕ) (nodes N P : ℕ) (tab : TableIn bytes nodes N P) (d
 
     -- the second operand where the first is true, else the third
     pub at-choice : n .op ≡ 1
-        → ((getD vals (n .a) 0 ≡ 1 → getD vals (n .b) 0 ≡ valueIn bytes nodes N ds k)
-        × ((getD vals (n .a) 0 ≡ 1 → ⊥) → getD vals (n .c) 0 ≡ valueIn bytes nodes N ds k))
+        → ((val (n .a) ≡ 1 → val (n .b) ≡ valueIn bytes nodes N ds k)
+        × ((val (n .a) ≡ 1 → ⊥) → val (n .c) ≡ valueIn bytes nodes N ds k))
     at-choice q =
         let w = operands 1 q (formula ∷ term ∷ term ∷ []) refl in
         let first = truth-at-hand (n .a) (w .0) (w .1) in (
@@ -163,8 +156,8 @@ module _ (bytes : List ℕ) (nodes N P : ℕ) (tab : TableIn bytes nodes N P) (d
         )
 
     pub at-select : n .op ≡ 9
-        → ((getD vals (n .a) 0 ≡ 1 → getD vals (n .b) 0 ≡ valueIn bytes nodes N ds k)
-        × ((getD vals (n .a) 0 ≡ 1 → ⊥) → getD vals (n .c) 0 ≡ valueIn bytes nodes N ds k))
+        → ((val (n .a) ≡ 1 → val (n .b) ≡ valueIn bytes nodes N ds k)
+        × ((val (n .a) ≡ 1 → ⊥) → val (n .c) ≡ valueIn bytes nodes N ds k))
     at-select q =
         let w = operands 9 q (formula ∷ formula ∷ formula ∷ []) refl in
         let first = truth-at-hand (n .a) (w .0) (w .1) in
@@ -178,7 +171,7 @@ module _ (bytes : List ℕ) (nodes N P : ℕ) (tab : TableIn bytes nodes N P) (d
         )
 
     -- an equation
-    pub at-equal : n .op ≡ 2 → getD vals (n .a) 0 ≡ getD vals (n .b) 0 → 1 ≡ valueIn bytes nodes N ds k
+    pub at-equal : n .op ≡ 2 → val (n .a) ≡ val (n .b) → 1 ≡ valueIn bytes nodes N ds k
     at-equal q e =
         let w = operands 2 q (term ∷ term ∷ []) refl in
         sym
@@ -186,7 +179,7 @@ module _ (bytes : List ℕ) (nodes N P : ℕ) (tab : TableIn bytes nodes N P) (d
         ∙ ap (λ (c : Bool). byteOf (truth c))
         (eq-eqb (numberAt vs (n .a)) (numberAt vs (n .b)) (sym (number-at-hand (n .a) (w .0) (w .1)) ∙ e ∙ number-at-hand (n .b) (w .2 .0) (w .2 .1))))
 
-    pub at-differ : n .op ≡ 2 → (getD vals (n .a) 0 ≡ getD vals (n .b) 0 → ⊥) → 0 ≡ valueIn bytes nodes N ds k
+    pub at-differ : n .op ≡ 2 → (val (n .a) ≡ val (n .b) → ⊥) → 0 ≡ valueIn bytes nodes N ds k
     at-differ q e =
         let w = operands 2 q (term ∷ term ∷ []) refl in
         sym
@@ -194,60 +187,41 @@ module _ (bytes : List ℕ) (nodes N P : ℕ) (tab : TableIn bytes nodes N P) (d
         ∙ ap (λ (c : Bool). byteOf (truth c))
         (ne-eqb (numberAt vs (n .a)) (numberAt vs (n .b)) (λ z. e (number-at-hand (n .a) (w .0) (w .1) ∙ z ∙ sym (number-at-hand (n .b) (w .2 .0) (w .2 .1))))))
 
-    -- the connectives
-    pub first-bit : (op : ℕ) → n .op ≡ op → (ss : List Sort) → operandSorts (opOf op) 0 ≡ some (formula ∷ ss) → getD vals (n .a) 0 ≤ 1
-    first-bit op q ss e =
-        let w = operands op q (formula ∷ ss) e in
-        subst (λ x. x ≤ 1) (sym (truth-at-hand (n .a) (w .0) (w .1))) (small (truthAt vs (n .a)))
-      where
-        small : (b : Bool) → bit b ≤ 1
-        small true = omega arith
-        small false = omega arith
-
-    pub at-not : n .op ≡ 3 → 1 - getD vals (n .a) 0 ≡ valueIn bytes nodes N ds k
+    -- the connectives, by whether the first operand is true
+    pub at-not : n .op ≡ 3 → (val (n .a) ≡ 1 → 0 ≡ valueIn bytes nodes N ds k) × ((val (n .a) ≡ 1 → ⊥) → 1 ≡ valueIn bytes nodes N ds k)
     at-not q =
         let w = operands 3 q (formula ∷ []) refl in
-        ap (λ x. 1 - x) (truth-at-hand (n .a) (w .0) (w .1)) ∙ go (truthAt vs (n .a)) ∙ sym (value-here 3 q)
-      where
-        go : (b : Bool) → 1 - bit b ≡ byteOf (truth (not b))
-        go true = refl
-        go false = refl
+        let first = truth-at-hand (n .a) (w .0) (w .1) in (
+          λ e. sym (value-here 3 q ∙ ap (λ (c : Bool). byteOf (truth (not c))) (one-true (truthAt vs (n .a)) (sym first ∙ e))),
+          λ e. sym (value-here 3 q ∙ ap (λ (c : Bool). byteOf (truth (not c))) (not-one (truthAt vs (n .a)) (λ z. e (first ∙ z)))),
+        )
 
-    pub at-and : n .op ≡ 4 → bitAnd (getD vals (n .a) 0) (getD vals (n .b) 0) ≡ valueIn bytes nodes N ds k
+    pub at-and : n .op ≡ 4 → (val (n .a) ≡ 1 → val (n .b) ≡ valueIn bytes nodes N ds k) × ((val (n .a) ≡ 1 → ⊥) → 0 ≡ valueIn bytes nodes N ds k)
     at-and q =
         let w = operands 4 q (formula ∷ formula ∷ []) refl in
-        ap₂ bitAnd (truth-at-hand (n .a) (w .0) (w .1)) (truth-at-hand (n .b) (w .2 .0) (w .2 .1))
-        ∙ go (truthAt vs (n .a)) (truthAt vs (n .b)) ∙ sym (value-here 4 q)
-      where
-        go : (b c : Bool) → bitAnd (bit b) (bit c) ≡ byteOf (truth (b && c))
-        go true true = refl
-        go true false = refl
-        go false true = refl
-        go false false = refl
+        let first = truth-at-hand (n .a) (w .0) (w .1) in
+        let by : (c : Bool) → truthAt vs (n .a) ≡ c → valueIn bytes nodes N ds k ≡ bit (c && truthAt vs (n .b)) =
+        λ c e.
+        value-here 4 q ∙ byte-truth (truthAt vs (n .a) && truthAt vs (n .b)) ∙ ap (λ (d : Bool). bit (d && truthAt vs (n .b))) e
+        in (
+          λ e. truth-at-hand (n .b) (w .2 .0) (w .2 .1) ∙ sym (by true (one-true (truthAt vs (n .a)) (sym first ∙ e))),
+          λ e. sym (by false (not-one (truthAt vs (n .a)) (λ z. e (first ∙ z)))),
+        )
 
-    pub at-or : n .op ≡ 5 → bitOr (getD vals (n .a) 0) (getD vals (n .b) 0) ≡ valueIn bytes nodes N ds k
+    pub at-or : n .op ≡ 5 → (val (n .a) ≡ 1 → 1 ≡ valueIn bytes nodes N ds k) × ((val (n .a) ≡ 1 → ⊥) → val (n .b) ≡ valueIn bytes nodes N ds k)
     at-or q =
         let w = operands 5 q (formula ∷ formula ∷ []) refl in
-        ap₂ bitOr (truth-at-hand (n .a) (w .0) (w .1)) (truth-at-hand (n .b) (w .2 .0) (w .2 .1))
-        ∙ go (truthAt vs (n .a)) (truthAt vs (n .b)) ∙ sym (value-here 5 q)
-      where
-        go : (b c : Bool) → bitOr (bit b) (bit c) ≡ byteOf (truth (b || c))
-        go true true = refl
-        go true false = refl
-        go false true = refl
-        go false false = refl
+        let first = truth-at-hand (n .a) (w .0) (w .1) in
+        let by : (c : Bool) → truthAt vs (n .a) ≡ c → valueIn bytes nodes N ds k ≡ bit (c || truthAt vs (n .b)) =
+        λ c e.
+        value-here 5 q ∙ byte-truth (truthAt vs (n .a) || truthAt vs (n .b)) ∙ ap (λ (d : Bool). bit (d || truthAt vs (n .b))) e
+        in (
+          λ e. sym (by true (one-true (truthAt vs (n .a)) (sym first ∙ e))),
+          λ e. truth-at-hand (n .b) (w .2 .0) (w .2 .1) ∙ sym (by false (not-one (truthAt vs (n .a)) (λ z. e (first ∙ z)))),
+        )
 
     -- there is no other op
     pub no-other : (op : ℕ) → n .op ≡ op → operandSorts (opOf op) 0 ≡ none → ⊥
     no-other op q e =
         false≢true
         (subst (λ (o : Option (List Sort)). fits (take k t) o (fieldsOf n) ≡ true) (ap (λ x. operandSorts (opOf x) 0) q ∙ e) (free-fits N P t (tab .free) k here))
-
-    -- one value more
-    pub value-more : (v : ℕ) → length vals ≡ 2632 → nodes ≤ 2632 → v ≡ valueIn bytes nodes N ds k → ValuesAre bytes nodes N ds (k + 1) (set vals k v)
-    value-more v long few e =
-        ap (λ m. take m (set vals k v)) (add-one k) ∙ take-suc-set vals k v (omega arith)
-        ∙ ap₂ {C = List ℕ} (λ xs x. xs ++ (x ∷ [])) known e
-        ∙ sym (map-append byteOf (take k vs) (valueAt vs k ∷ []))
-        ∙ ap (map byteOf) (sym (take-suc vs k (number 0) (let l = length-grown (nodeValue A []) t in omega (arith, here))))
-        ∙ ap (λ m. map byteOf (take m vs)) (sym (add-one k))

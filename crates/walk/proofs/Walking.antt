@@ -1,200 +1,244 @@
 -- The walk on its way: the odometer stands after the places tried, and all of them are true. Assumes nothing.
-use mathlib.Core.Path.{_≡_, refl, sym, ap, ap₂, _∙_, subst, fun-ext}
-use Prim.Native.Nat.{ℕ, zero, suc, _+_, _-_, _≤_, _<_}
+use mathlib.Core.Path.{_≡_, refl, sym, ap, ap₂, _∙_, subst}
+use Prim.Native.Nat.{ℕ, suc, _+_, _*_, _-_, _≤_, _<_, min}
+use native.Mathlib.Nat.{min-le-left, min-le-right, le-min}
 use native.Mathlib.Omega.{arith}
 use native.Mathlib.Numerals.{add-one}
 use mathlib.Core.Bool.{Bool, true, false, false≢true}
 use mathlib.Core.List.{List, [], map}
 use mathlib.Core.Logic.{_⊎_, inl, inr}
-use lib.ListN.{length, getD, take, length-take, List·getD-eq-default, List·getD-map}
-use lib.Seq.{getD-take, length-take-le}
-use lib.Dec.{eqb}
-use Rattle.definitions.specs.Problem.Ops.{formula}
-use Rattle.definitions.specs.Logic.{Interpretation, Value, number, valueAt, truthAt, values}
-use Rattle.definitions.specs.Places.{next, first, digitsAfter, digitsAt, assignment}
+use lib.ListN.{length, getD, take, length-map, length-take, List·getD-map, getD-replicate, length-replicate, replicate}
+use lib.Seq.{getD-take, length-take-le, ext-getD}
+use Rattle.definitions.specs.Logic.{Value, number, values, nodeValue}
+use Rattle.definitions.specs.Places.{digitsAfter, digitsAt, assignment}
 use Rattle.definitions.specs.Witness.{byteOf}
+use Rattle.theorems.proofs.Accepted.{length-nodesAt}
+use Rattle.theorems.proofs.Laws.Grown.{length-grown}
 use Rattle.theorems.proofs.Laws.Tests.{split}
+use Rattle.theorems.proofs.Search.Places.{after-within, digits-length}
 use Rattle.theorems.proofs.Search.Verdict.{AllTrue, FirstFalse}
 use Rattle.ranges.specs.Table.{TableIn, tableIn}
-use Rattle.walk.specs.Digits.{Digits, ValuesAre, valueIn, Turning, NextIs, digitsOf, sizesIn}
-use Rattle.walk.specs.Walked.{rootTrue, RootIn, Starts, Ends, WalkIs}
+use Rattle.walk.specs.Cells.{cell, Decoded, LanesLaid, Solved, Constant, LaneHolds, FirstLane, LaneCopied}
+use Rattle.walk.specs.Digits.{Digits, ValuesAre, valueIn, Turning, PlacesLaid, digitsOf, sizesIn}
+use Rattle.walk.specs.Walked.{rootTrue, RootIn, Starts, WalkIs}
 use Rattle.walk.specs.declared.odometer.Odometer.{Odometer}
 use Rattle.walk.specs.declared.odometer.Step.{Step}
 use Rattle.walk.proofs.Turns.{within-at}
 use Rattle.walk.proofs.Values.{bit, truth-byte}
+use Rattle.walk.proofs.Solving.{lane-value}
 
--- digits that agree give one assignment
-same-assignment : (N : ℕ) (ds es : List ℕ) → ((v : ℕ) → getD ds v 0 ≡ getD es v 0) → assignment N ds ≡ assignment N es
-same-assignment N ds es h =
-    λ i.
-    record {
-      function = λ v args. suc (h v i);
-      predicate = λ v args. eqb (h (N + v) i) 1;
-    }
-
-pub record Walking (table : List ℕ) (nodes N P root : ℕ) (o : Odometer) (limit : ℕ) (vals : List ℕ) (now : Odometer) (tried : ℕ) : Type 0 where
+pub record Walking (table : List ℕ) (nodes N P root : ℕ) (o : Odometer) (limit : ℕ) (bs vals cells : List ℕ) (now : Odometer) (tried : ℕ) : Type 0 where
   pub table-in : TableIn table nodes N P
   pub root-in : RootIn table nodes root
   pub starts : Starts N P o
   pub long : length vals ≡ 2632
+  pub branches-long : length bs ≡ 10528
+  pub decoded : Decoded table nodes N bs nodes
+  pub cells-long : length cells ≡ 42784
+  pub constant : Constant cells
   pub reached : tried ≤ limit
   pub turning : Turning now
   pub same-sizes : now .sizes ≡ o .sizes
   pub same-count : now .count ≡ o .count
-  pub digits-are : digitsOf now ≡ digitsAfter (sizesIn o) tried
+  pub digits-are : tried < limit → digitsOf now ≡ digitsAfter (sizesIn o) tried
   pub held : AllTrue (rootTrue table nodes N root (sizesIn o)) tried
 
-pub sets-out : (table : List ℕ) (nodes N P root : ℕ) (o : Odometer) (limit : ℕ) (vals : List ℕ) → TableIn table nodes N P → RootIn table nodes root
-    → Starts N P o → length vals ≡ 2632 → Walking table nodes N P root o limit vals o 0
-sets-out table nodes N P root o limit vals tab r s l =
+-- as many lanes as places are left, and at most sixteen
+pub lanes-few : (many left : ℕ) → many ≡ min left 16 → (many ≤ 16) × (many ≤ left) × (many < 16 → left ≤ many)
+lanes-few many left e =
+    let a = min-le-left left 16 in
+    let b = min-le-right left 16 in
+    let most : many < 16 → left ≤ many =
+    λ h.
+    elim (split many left) [
+      | inl g ↦ absurd (let z = le-min {k = suc many} {a = left} {b = 16} (omega arith) (omega arith) in omega arith)
+      | inr g ↦ g
+    ]
+    in (omega arith, omega arith, most)
+
+-- false is there from the start, and true is laid
+pub constant-laid : (cells : List ℕ) → LanesLaid (replicate 42784 0) 42128 (replicate 16 1) cells → Constant cells
+constant-laid cells laid =
+    record {
+      no = λ l h. laid .outside (16 * 2632 + l) (inl (omega arith)) ∙ getD-replicate 42784 (16 * 2632 + l) 0 0 (omega arith);
+      yes =
+          λ l h.
+          ap (λ i. getD cells i 0) (let e : 16 * 2633 + l ≡ 42128 + l = omega arith in e) ∙ laid .inside l h ∙ getD-replicate 16 l 1 0 h;
+    }
+
+pub sets-out : (table : List ℕ) (nodes N P root : ℕ) (o : Odometer) (limit : ℕ) (bs vals cells : List ℕ) → TableIn table nodes N P
+    → RootIn table nodes root → Starts N P o → length vals ≡ 2632 → length bs ≡ 10528 → Decoded table nodes N bs nodes → length cells ≡ 42784
+    → Constant cells → Walking table nodes N P root o limit bs vals cells o 0
+sets-out table nodes N P root o limit bs vals cells tab r s l bl d cl con =
     record {
       table-in = tab;
       root-in = r;
       starts = s;
       long = l;
+      branches-long = bl;
+      decoded = d;
+      cells-long = cl;
+      constant = con;
       reached = omega arith;
       turning = s .turning;
       same-sizes = refl;
       same-count = refl;
-      digits-are = s .at-first;
+      digits-are = λ _. s .at-first;
       held = λ p a b. absurd (omega arith);
     }
 
-module _ (table : List ℕ) (nodes N P root : ℕ) (o : Odometer) (limit : ℕ) (vals : List ℕ) (now : Odometer) (tried : ℕ)
-    (w : Walking table nodes N P root o limit vals now tried) where
-  abbrev T : Turning now
-  T = w .turning
+module _
+    (table : List ℕ)
+    (nodes N P root : ℕ)
+    (o : Odometer)
+    (limit : ℕ)
+    (bs vals cells : List ℕ)
+    (now : Odometer)
+    (tried : ℕ)
+    (w : Walking table nodes N P root o limit bs vals cells now tried) where
+  abbrev ss : List ℕ
+  ss = sizesIn o
 
-  count-is : now .count ≡ N + P
-  count-is = w .same-count ∙ w .starts .count-is
+  abbrev good : ℕ → Bool
+  good = rootTrue table nodes N root ss
 
-  -- a digit in use is below its size
-  digit-below : (v : ℕ) → v < N + P → getD (now .digits) v 0 < getD (o .sizes) v 0
-  digit-below v h =
-      let c = count-is in
-      let few = T .few in
-      let sl = T .sizes-long in
-      let l = length-take-le (now .count) (now .sizes) (omega arith) in
-      let b = within-at (sizesIn now) (digitsOf now) (T .within) v (omega arith) in
-      let s = getD-take (now .count) (now .sizes) v 0 (omega arith) in
-      let d = getD-take (now .count) (now .digits) v 0 (omega arith) in
-      let e = ap (λ xs. getD xs v 0) (w .same-sizes) in
-      omega arith
+  sizes-same : sizesIn now ≡ ss
+  sizes-same = ap₂ (λ (c : ℕ) (xs : List ℕ). take c xs) (w .same-count) (w .same-sizes)
 
-  past : (v : ℕ) → N + P ≤ v → getD (now .digits) v 0 ≡ 0
-  past v h = T .past v (let c = count-is in omega arith)
-
-  -- the digits are digits of the table's variables
-  pub digits-right : Digits N P (now .digits)
-  digits-right =
+  -- the digits of every place are in their ranges
+  digits-right : (t : ℕ) → Digits N P (digitsAfter ss t)
+  digits-right t =
+      let s = w .starts in
+      let few = s .turning .few in
+      let long = s .turning .sizes-long in
+      let c = s .count-is in
+      let l = length-take-le (o .count) (o .sizes) (omega arith) in
       record {
-        long = T .digits-long;
-        small =
-            λ v.
-            elim (split v N) [
-              | inl h ↦ let d = digit-below v (omega arith) in let s = w .starts .small v h in omega arith
-              | inr h ↦
-                  elim (split v (N + P)) [
-                    | inl g ↦
-                        let d = digit-below v g in
-                        let s = w .starts .bits (v - N) (omega arith) in
-                        let e = ap (λ m. getD (o .sizes) m 0) (let q : N + (v - N) ≡ v = omega arith in q) in
-                        omega arith
-                    | inr g ↦ let z = past v g in omega arith
-                  ]
-            ];
-        bits = λ v h. let d = digit-below (N + v) (omega arith) in let s = w .starts .bits v h in omega arith;
+        bits =
+            λ v h.
+            let b = within-at ss (digitsAfter ss t) (after-within ss (s .turning .positive) t) (N + v) (omega arith) in
+            let e = getD-take (o .count) (o .sizes) (N + v) 0 (omega arith) in
+            let two = s .bits v h in
+            omega arith;
       }
 
-  -- the place that is tried next
-  abbrev place : ℕ
-  place = tried + 1
+  module _ (mid : List ℕ) (step : Step) (laid : PlacesLaid now N P cells mid step) (going : tried < limit) where
+    stands : digitsOf now ≡ digitsAfter (sizesIn now) tried
+    stands = w .digits-are going ∙ ap (λ xs. digitsAfter xs tried) (sym sizes-same)
 
-  abbrev sizes : List ℕ
-  sizes = sizesIn o
-
-  digits-place : digitsAt sizes place ≡ digitsAfter sizes tried
-  digits-place = ap (digitsAt sizes) (add-one tried)
-
-  -- the digits of the odometer, all 40 of them, are those of the place
-  same-digits : (v : ℕ) → getD (now .digits) v 0 ≡ getD (digitsAt sizes place) v 0
-  same-digits v =
-      (elim (split v (now .count)) [
-        | inl h ↦ sym (getD-take (now .count) (now .digits) v 0 h)
-        | inr h ↦
-            T .past v h
-            ∙ sym (List·getD-eq-default (digitsOf now) 0 (let l = length-take (now .count) (now .digits) in omega arith))
-      ])
-      ∙ ap (λ xs. getD xs v 0) (w .digits-are ∙ sym digits-place)
-
-  same-values : values (assignment N (now .digits)) [] (tableIn table nodes) ≡ values (assignment N (digitsAt sizes place)) [] (tableIn table nodes)
-  same-values = ap (λ (A : Interpretation). values A [] (tableIn table nodes)) (same-assignment N (now .digits) (digitsAt sizes place) same-digits)
-
-  module _ (after : List ℕ) (are : ValuesAre table nodes N (now .digits) nodes after) where
-    pub values-place : ValuesAre table nodes N (digitsAt sizes place) nodes after
-    values-place = are ∙ ap (λ vs. map byteOf (take nodes vs)) same-values
-
-    abbrev vs : List Value
-    vs = values (assignment N (digitsAt sizes place)) [] (tableIn table nodes)
-
-    -- the byte at the root is its truth at the place
-    root-byte : getD after root 0 ≡ bit (rootTrue table nodes N root sizes place)
-    root-byte =
-        let h = w .root-in .below in
-        sym (getD-take nodes after root 0 h) ∙ ap (λ xs. getD xs root 0) values-place
-        ∙ List·getD-map byteOf (take nodes vs) root (number 0)
-        ∙ ap byteOf (getD-take nodes vs root (number 0) h)
-        ∙ truth-byte table nodes N P (w .table-in) (digitsAt sizes place) root h (w .root-in .is-formula)
-
-    zero-false : (b : Bool) → bit b ≡ 0 → b ≡ false
-    zero-false true e = absurd (omega arith)
-    zero-false false e = refl
-
-    not-zero : (b : Bool) → (bit b ≡ 0 → ⊥) → b ≡ true
-    not-zero true e = refl
-    not-zero false e = absurd (e refl)
-
-    -- a false root: the walk ends
-    pub falsifies : tried < limit → getD after root 0 ≡ 0
-        → WalkIs table nodes N P root o limit after (record { tried = tried + 1; falsified = true })
-    falsifies h z =
+    constant-mid : Constant mid
+    constant-mid =
         record {
-          ends =
-              record {
-                low = omega arith;
-                high = omega arith;
-                fails = zero-false _ (sym root-byte ∙ z);
-                before = λ q a b. w .held q a (omega arith);
-              };
-          values-are = λ _. values-place;
+          no = λ l h. laid .kept (16 * 2632 + l) (omega arith) ∙ w .constant .no l h;
+          yes = λ l h. laid .kept (16 * 2633 + l) (omega arith) ∙ w .constant .yes l h;
         }
 
-    -- a true root: one place more holds, and the odometer goes on
-    pub goes-on : tried < limit → (getD after root 0 ≡ 0 → ⊥) → length after ≡ 2632 → (step : Step) → NextIs now step
-        → Walking table nodes N P root o limit after (step .odometer) (tried + 1)
-    goes-on h z l step n =
-        record {
-          table-in = w .table-in;
-          root-in = w .root-in;
-          starts = w .starts;
-          long = l;
-          reached = omega arith;
-          turning = n .turning;
-          same-sizes = n .same-sizes ∙ w .same-sizes;
-          same-count = n .same-count ∙ w .same-count;
-          digits-are =
-              n .digits-next
-              ∙ ap₂ next (ap₂ (λ (c : ℕ) (ss : List ℕ). take c ss) (w .same-count) (w .same-sizes)) (w .digits-are)
-              ∙ ap (digitsAfter sizes) (sym (add-one tried));
-          held =
-              λ p a b.
-              elim (split p place) [
-                | inl g ↦ w .held p a (omega arith)
-                | inr g ↦
-                    subst (λ m. rootTrue table nodes N root sizes m ≡ true) (let q : place ≡ p = omega arith in q)
-                    (not-zero _ (λ e. z (root-byte ∙ e)))
-              ];
-        }
+    module _ (after : List ℕ) (solved : Solved bs mid after nodes) where
+      constant-after : Constant after
+      constant-after =
+          record {
+            no = λ l h. solved .kept (16 * 2632 + l) (omega arith) ∙ constant-mid .no l h;
+            yes = λ l h. solved .kept (16 * 2633 + l) (omega arith) ∙ constant-mid .yes l h;
+          }
+
+      -- each lane holds its place
+      lane-holds : (l : ℕ) → l < 16 → LaneHolds N P (digitsAfter ss (tried + l)) after l
+      lane-holds l h =
+          let was = subst (λ xs. LaneHolds N P (digitsAfter xs (tried + l)) mid l) sizes-same (laid .lanes tried stands l h) in
+          record {
+            variable = λ v b. solved .kept (16 * (2634 + v) + l) (omega arith) ∙ was .variable v b;
+            truth = λ v b. solved .kept (16 * (2634 + (N + v)) + l) (omega arith) ∙ was .truth v b;
+          }
+
+      -- and the values of its place, which is the one after those tried and the lanes before
+      lane-place : (l : ℕ) → l < 16 → (k : ℕ) → k < nodes → cell after k l ≡ valueIn table nodes N (digitsAt ss (tried + l + 1)) k
+      lane-place l h k b =
+          lane-value table nodes N P (w .table-in) bs mid after (w .decoded) solved constant-after l h (digitsAfter ss (tried + l)) (lane-holds l h)
+          (digits-right (tried + l)) k b
+          ∙ ap (λ ds. valueIn table nodes N ds k) (sym (ap (digitsAt ss) (add-one (tried + l))))
+
+      root-byte : (l : ℕ) → l < 16 → cell after root l ≡ bit (good (tried + l + 1))
+      root-byte l h =
+          let b = w .root-in .below in
+          lane-place l h root b ∙ truth-byte table nodes N P (w .table-in) (digitsAt ss (tried + l + 1)) root b (w .root-in .is-formula)
+
+      zero-false : (b : Bool) → bit b ≡ 0 → b ≡ false
+      zero-false true e = absurd (omega arith)
+      zero-false false e = refl
+
+      not-zero : (b : Bool) → (bit b ≡ 0 → ⊥) → b ≡ true
+      not-zero true e = refl
+      not-zero false e = absurd (e refl)
+
+      -- a lane that is not false is a place that holds
+      lane-true : (l : ℕ) → l < 16 → (cell after root l ≡ 0 → ⊥) → (p : ℕ) → p ≡ tried + l + 1 → good p ≡ true
+      lane-true l h n p e = subst (λ m. good m ≡ true) (sym e) (not-zero (good (tried + l + 1)) (λ z. n (root-byte l h ∙ z)))
+
+      module _ (many lane : ℕ) (few : many ≤ 16) (left : many ≤ limit - tried) (found : FirstLane after root many lane) where
+        -- the places before the lane's hold
+        held-more : AllTrue good (tried + lane)
+        held-more p a b =
+            let i = found .inside in
+            elim (split tried p) [
+              | inr g ↦ w .held p a g
+              | inl g ↦
+                  lane-true (p - tried - 1) (omega arith) (found .before (p - tried - 1) (omega arith)) p (omega arith)
+            ]
+
+        -- the values at hand are those of the lane's place
+        values-place : lane < many → (vals′ : List ℕ) → length vals′ ≡ 2632 → LaneCopied after lane nodes vals′
+            → ValuesAre table nodes N (digitsAt ss (tried + lane + 1)) nodes vals′
+        values-place h vals′ long copied =
+            let vs = values (assignment N (digitsAt ss (tried + lane + 1))) [] (tableIn table nodes) in
+            let fewer = w .table-in .few-nodes in
+            let a = length-take-le nodes vals′ (omega arith) in
+            let b : length vs ≡ nodes = length-grown (nodeValue (assignment N (digitsAt ss (tried + lane + 1))) []) (tableIn table nodes) ∙ length-nodesAt table 0 nodes in
+            let c = length-take-le nodes vs (omega arith) in
+            ext-getD 0 (take nodes vals′) (map byteOf (take nodes vs)) (a ∙ sym (length-map (take nodes vs) byteOf ∙ c))
+            (λ k g.
+            getD-take nodes vals′ k 0 (omega arith) ∙ copied .copied k (omega arith) ∙ lane-place lane (omega arith) k (omega arith)
+            ∙ sym (List·getD-map byteOf (take nodes vs) k (number 0) ∙ ap byteOf (getD-take nodes vs k (number 0) (omega arith))))
+
+        -- a false root: the walk ends
+        pub falsifies : lane < many → (vals′ : List ℕ) → length vals′ ≡ 2632 → LaneCopied after lane nodes vals′
+            → WalkIs table nodes N P root o limit vals′ (record { tried = tried + lane + 1; falsified = true })
+        falsifies h vals′ long copied =
+            record {
+              ends =
+                  record {
+                    low = omega arith;
+                    high = omega arith;
+                    fails = zero-false _ (sym (root-byte lane (omega arith)) ∙ found .there h);
+                    before = λ q a b. held-more q a (omega arith);
+                  };
+              values-are = λ _. values-place h vals′ long copied;
+            }
+
+        -- no false root: so many places more hold, and the odometer goes on
+        pub goes-on : many ≤ lane → (many < 16 → limit ≤ tried + many) → length after ≡ 42784
+            → Walking table nodes N P root o limit bs vals after (step .odometer) (tried + many)
+        goes-on h last l =
+            let i = found .inside in
+            record {
+              table-in = w .table-in;
+              root-in = w .root-in;
+              starts = w .starts;
+              long = w .long;
+              branches-long = w .branches-long;
+              decoded = w .decoded;
+              cells-long = l;
+              constant = constant-after;
+              reached = omega arith;
+              turning = laid .turning;
+              same-sizes = laid .same-sizes ∙ w .same-sizes;
+              same-count = laid .same-count ∙ w .same-count;
+              digits-are =
+                  λ more.
+                  laid .onward tried stands
+                  ∙ ap₂ (λ (xs : List ℕ) (m : ℕ). digitsAfter xs (tried + m)) sizes-same
+                  (elim (split many 16) [ inl b ↦ absurd (let z = last b in omega arith) | inr b ↦ omega arith ]);
+              held = λ p a b. held-more p a (omega arith);
+            }
 
   -- as many as allowed are tried
   pub ends-walk : limit ≤ tried → WalkIs table nodes N P root o limit vals (record { tried = tried; falsified = false })

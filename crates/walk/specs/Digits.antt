@@ -6,17 +6,16 @@ use mathlib.Core.Bool.{Bool, true}
 use lib.ListN.{length, getD, take}
 use Rattle.definitions.specs.Lists.{productOf}
 use Rattle.definitions.specs.Logic.{valueAt, values}
-use Rattle.definitions.specs.Places.{next, assignment}
+use Rattle.definitions.specs.Places.{next, first, digitsAfter, assignment}
 use Rattle.definitions.specs.Witness.{byteOf}
 use Rattle.theorems.proofs.Search.Places.{Within, Positive}
 use Rattle.ranges.specs.Table.{tableIn}
+use Rattle.walk.specs.Cells.{LaneHolds}
 use Rattle.walk.specs.declared.odometer.Odometer.{Odometer}
 use Rattle.walk.specs.declared.odometer.Step.{Step}
 
--- 40 digits: those of the variables are below 24, those of the truth variables 0 or 1
+-- the digits of the truth variables are 0 or 1
 pub record Digits (variables truths : ℕ) (ds : List ℕ) : Type 0 where
-  pub long : length ds ≡ 40
-  pub small : (v : ℕ) → getD ds v 0 < 24
   pub bits : (v : ℕ) → v < truths → getD ds (variables + v) 0 < 2
 
 -- the value of node k at an assignment, as a byte
@@ -52,3 +51,16 @@ pub record NextIs (o : Odometer) (r : Step) : Type 0 where
   pub same-count : r .odometer .count ≡ o .count
   pub digits-next : digitsOf (r .odometer) ≡ next (sizesIn o) (digitsOf o)
   pub at-end : r .ended ≡ true → (i : ℕ) → getD (r .odometer .digits) i 0 ≡ 0
+
+-- sixteen places from the odometer's on stand in the lanes, and the odometer after them is handed on; ended where the first
+-- place comes again among those that follow each
+pub record PlacesLaid (o : Odometer) (N P : ℕ) (before after : List ℕ) (r : Step) : Type 0 where
+  pub turning : Turning (r .odometer)
+  pub same-sizes : r .odometer .sizes ≡ o .sizes
+  pub same-count : r .odometer .count ≡ o .count
+  pub kept : (i : ℕ) → i < 42144 → getD after i 0 ≡ getD before i 0
+  pub onward : (t : ℕ) → digitsOf o ≡ digitsAfter (sizesIn o) t → digitsOf (r .odometer) ≡ digitsAfter (sizesIn o) (t + 16)
+  pub lanes : (t : ℕ) → digitsOf o ≡ digitsAfter (sizesIn o) t → (l : ℕ) → l < 16
+      → LaneHolds N P (digitsAfter (sizesIn o) (t + l)) after l
+  pub at-end : r .ended ≡ true → (t : ℕ) → digitsOf o ≡ digitsAfter (sizesIn o) t
+      → (l : ℕ) × (l < 16) × (digitsAfter (sizesIn o) (t + l + 1) ≡ first (sizesIn o))

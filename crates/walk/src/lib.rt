@@ -1,12 +1,19 @@
-// The walk: the places are evaluated in order, from place 1 on, until one is false or as many as allowed are tried.
+// The walk: the places are evaluated in order, from place 1 on and sixteen at a time, until one is false or as many as allowed
+// are tried.
 ghost use mathlib.Core.Path.{_≡_};
+ghost use Prim.Native.Nat.{min};
 ghost use lib.ListN.{length};
 ghost use Rattle.ranges.specs.Table.{TableIn};
 ghost use Rattle.walk.specs.Walked.{RootIn, Starts, WalkIs};
-use crate::evaluation::evaluate;
+use crate::branches::decode;
+use crate::lanes::evaluate;
+use crate::lanes::first_false;
+use crate::lanes::lay;
+use crate::lanes::values_of;
 use crate::odometer::Odometer;
 
-pub mod evaluation;
+pub mod branches;
+pub mod lanes;
 pub mod odometer;
 
 // How far the walk went: the assignments evaluated, and whether the last of them is false.
@@ -29,23 +36,39 @@ pub fn walk(
     requires { ⌜ TableIn (now table) nodes variables truths × RootIn (now table) nodes root × Starts variables truths start × (length (now values) ≡ 2632) ⌝ }
     ensures { λ r. ⌜ WalkIs (now (table .entry)) nodes variables truths root start limit (now (values .exit)) r ⌝ }
 {
+    let mut branches = [0u16; 10528];
+    decode(table, nodes, variables, truths, &mut branches);
+    let mut cells = [0u8; 42784];
+    lay(&mut cells, 42128, [1; 16]);
     let mut odometer = start;
     let mut tried = 0u64;
     while tried < limit {
-        tried += 1;
-        let digits = odometer.digits;
-        evaluate(table, nodes, variables, truths, &digits, values);
-        if values[root] == 0 {
+        let step = odometer.next(variables, truths, &mut cells);
+        odometer = step.odometer;
+        evaluate(&branches, nodes, &mut cells);
+        let many = lanes_in(limit - tried);
+        let lane = first_false(&cells, root, many);
+        if lane < many {
+            values_of(&cells, nodes, lane, values);
             return Walked {
-                tried,
+                tried: tried + lane as u64 + 1,
                 falsified: true,
             };
         }
-        let step = odometer.next();
-        odometer = step.odometer;
+        tried += many as u64;
     }
     Walked {
         tried,
         falsified: false,
     }
+}
+
+// As many lanes as there are places left, and at most sixteen.
+fn lanes_in(left: u64) -> usize
+    ensures { λ r. ⌜ r ≡ min left 16 ⌝ }
+{
+    if left < 16 {
+        return left as usize;
+    }
+    16
 }

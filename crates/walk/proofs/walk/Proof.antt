@@ -1,76 +1,148 @@
--- The walk tries the places in order: the loop keeps that the odometer stands after those tried, and that all of them are true.
--- Assumes nothing.
+-- The walk tries the places in order, sixteen at a time: the loop keeps that the odometer stands after those tried, and that all
+-- of them are true. Assumes nothing.
 use borrow.Author.Needs.{needs}
 use native.Mathlib.Omega.{arith}
-use mathlib.Core.Path.{_≡_, refl, sym, _∙_}
-use Prim.Native.Nat.{_-_}
-use Rattle.walk.proofs.Walking.{Walking, sets-out, digits-right, falsifies, goes-on, ends-walk}
+use mathlib.Core.Path.{_≡_, refl, sym, _∙_, subst}
+use Prim.Native.Nat.{ℕ, _-_, _+_, _≤_, _<_, min}
+use lib.ListN.{length-replicate}
+use Rattle.walk.proofs.Branching.{ordered}
+use Rattle.walk.proofs.Walking.{Walking, sets-out, lanes-few, constant-laid, falsifies, goes-on, ends-walk}
 use Rattle.walk.proofs.walk.Statement.{statement}
 use Rattle.walk.proofs.walk.Tie as tie
 
 abbrev Inv-loop : tie.InvT-loop
-Inv-loop table nodes variables truths root limit values₀ odometer₀ tried₀ values odometer tried =
-    Walking table nodes variables truths root odometer₀ limit values odometer tried
+Inv-loop table nodes variables truths root limit values₀ branches cells₀ odometer₀ tried₀ values cells odometer tried =
+    Walking table nodes variables truths root odometer₀ limit branches values cells odometer tried
 
 abbrev μ-loop : tie.MeasureT-loop
-μ-loop table nodes variables truths root limit values₀ odometer₀ tried₀ values odometer tried = limit - tried
+μ-loop table nodes variables truths root limit values₀ branches cells₀ odometer₀ tried₀ values cells odometer tried = limit - tried
+
+slice-aggregate-decode : tie.Need-slice-aggregate-decode Inv-loop μ-loop
+slice-aggregate-decode c = search needs
+
+decode-requires : tie.Need-decode-requires Inv-loop μ-loop
+decode-requires c κs = (c .before .before .before .pre .0, length-replicate {A = ℕ} 10528 0)
+
+slice-aggregate-lay : tie.Need-slice-aggregate-lay Inv-loop μ-loop
+slice-aggregate-lay c = search needs
+
+lay-requires : tie.Need-lay-requires Inv-loop μ-loop
+lay-requires c κs = (omega (arith, length-replicate {A = ℕ} 42784 0), length-replicate {A = ℕ} 16 1)
 
 loop-holds : tie.Need-loop-holds Inv-loop μ-loop
-loop-holds c = let s = c .before .before in sets-out _ _ _ _ _ _ _ _ (s .pre .0) (s .pre .1) (s .pre .2) (s .pre .3)
+loop-holds c =
+    let s = c .before .before .before .before .before .before .before .before in
+    let d = c .before .before .before .before .decode in
+    let l = c .before .lay in
+    sets-out _ _ _ _ _ _ _ _ _ _ (s .pre .0) (s .pre .1) (s .pre .2) (s .pre .3) (d .kept .1 .1 .1 .1 .0 ∙ length-replicate {A = ℕ} 10528 0)
+    (d .ensures) (l .kept .0 ∙ length-replicate {A = ℕ} 42784 0) (constant-laid _ (l .ensures))
 
-add-tried : tie.Need-add-tried Inv-loop μ-loop
-add-tried c = omega arith
+slice-aggregate-next : tie.Need-slice-aggregate-next Inv-loop μ-loop
+slice-aggregate-next c = search (needs, c .before .before .loop .inv .cells-long)
+
+next-requires : tie.Need-next-requires Inv-loop μ-loop
+next-requires c κs =
+    let v = c .before .before .loop .inv in
+    (v .turning, v .same-count ∙ v .starts .count-is, v .cells-long)
 
 slice-aggregate-evaluate : tie.Need-slice-aggregate-evaluate Inv-loop μ-loop
-slice-aggregate-evaluate c = search (needs, c .before .before .before .loop .inv .turning .digits-long)
+slice-aggregate-evaluate c = search (needs, c .before .before .before .before .before .before .loop .inv .branches-long)
+
+slice-aggregate-evaluate-2 : tie.Need-slice-aggregate-evaluate-2 Inv-loop μ-loop
+slice-aggregate-evaluate-2 c = search (needs, c .before .before .before .before .next .kept .1 .1 .1 .0 ∙ c .before .before .before .before .before .before .before .loop .inv .cells-long)
 
 evaluate-requires : tie.Need-evaluate-requires Inv-loop μ-loop
 evaluate-requires c κs =
-    let s = c .before .before .before .before .before .before .before in
-    let l = c .before .before .before .before .loop in
-    (l .inv .table-in, digits-right (s .args .table .now) (s .args .nodes) (s .args .variables) (s .args .truths) (s .args .root) (s .args .start) (s .args .limit) (l .values) (l .odometer) (l .tried) (l .inv), l .inv .long)
+    let v = c .before .before .before .before .before .before .before .loop .inv in
+    let l = c .before .before .before .before .next .kept .1 .1 .1 .0 in
+    (v .table-in .few-nodes, v .branches-long, l ∙ v .cells-long, ordered _ _ _ _ _ (v .table-in) (v .decoded))
 
-slice-read-if1 : tie.Need-slice-read-if1 Inv-loop μ-loop
-slice-read-if1 c =
-    let s = c .before .before .before .before .before .before .before .before .before .before .before in
-    let l = c .before .before .before .before .before .before .before .before .loop in
-    let few = l .inv .table-in .few-nodes in
-    let h = l .inv .root-in .below in
-    let long = l .inv .long in
-    omega (arith, c .before .before .before .evaluate .kept .1 .1 .1 .1 .1 .0)
+sub-lanes-in : tie.Need-sub-lanes-in Inv-loop μ-loop
+sub-lanes-in c = omega (arith, c .before .before .before .before .before .before .before .before .loop-test .taken)
+
+lanes-in-requires : tie.Need-lanes-in-requires Inv-loop μ-loop
+lanes-in-requires c κs = search needs
+
+slice-aggregate-first-false : tie.Need-slice-aggregate-first-false Inv-loop μ-loop
+slice-aggregate-first-false c = search (needs, c .before .before .before .evaluate .kept .1 .1 .0 ∙ c .before .before .before .before .before .before .before .before .next .kept .1 .1 .1 .0 ∙ c .before .before .before .before .before .before .before .before .before .before .before .loop .inv .cells-long)
+
+first-false-requires : tie.Need-first-false-requires Inv-loop μ-loop
+first-false-requires c κs =
+    let v = c .before .before .before .before .before .before .before .before .before .before .before .loop .inv in
+    let few = v .table-in .few-nodes in
+    let below = v .root-in .below in
+    let many = lanes-few _ _ (c .before .lanes-in .ensures) in
+    (omega arith, many .0, c .before .before .before .evaluate .kept .1 .1 .0 ∙ c .before .before .before .before .before .before .before .before .next .kept .1 .1 .1 .0 ∙ v .cells-long)
+
+slice-aggregate-values-of : tie.Need-slice-aggregate-values-of Inv-loop μ-loop
+slice-aggregate-values-of c = search (needs, c .before .before .before .before .before .before .evaluate .kept .1 .1 .0 ∙ c .before .before .before .before .before .before .before .before .before .before .before .next .kept .1 .1 .1 .0 ∙ c .before .before .before .before .before .before .before .before .before .before .before .before .before .before .loop .inv .cells-long)
+
+values-of-requires : tie.Need-values-of-requires Inv-loop μ-loop
+values-of-requires c κs =
+    let v = c .before .before .before .before .before .before .before .before .before .before .before .before .before .before .before .loop .inv in
+    let many = lanes-few _ _ (c .before .before .before .before .before .lanes-in .ensures) in
+    let inside = c .before .before .if1 .taken in
+    (v .table-in .few-nodes, (let m = many .0 in omega arith), c .before .before .before .before .before .before .before .evaluate .kept .1 .1 .0 ∙ c .before .before .before .before .before .before .before .before .before .before .before .before .next .kept .1 .1 .1 .0 ∙ c .before .before .before .before .before .before .before .before .before .before .before .before .before .before .before .loop .inv .cells-long, v .long)
+
+add-t39 : tie.Need-add-t39 Inv-loop μ-loop
+add-t39 c =
+    let inside = c .before .before .before .before .before .if1 .taken in
+    let many = lanes-few _ _ (c .before .before .before .before .before .before .before .before .lanes-in .ensures) in
+    let m = many .1 in
+    let test = c .before .before .before .before .before .before .before .before .before .before .before .before .before .before .before .before .before .loop-test .taken in
+    omega (arith, c .before .before .before .before .before .before .before .before .before .before .before .before .before .before .before .before .before .before .before .before .before .before .before .before .before .before .before .fits .limit)
+
+add-t40 : tie.Need-add-t40 Inv-loop μ-loop
+add-t40 c =
+    let inside = c .before .before .before .before .before .if1 .taken in
+    let many = lanes-few _ _ (c .before .before .before .before .before .before .before .before .lanes-in .ensures) in
+    let m = many .1 in
+    let test = c .before .before .before .before .before .before .before .before .before .before .before .before .before .before .before .before .before .loop-test .taken in
+    omega (arith, c .before .before .before .before .before .before .before .before .before .before .before .before .before .before .before .before .before .before .before .before .before .before .before .before .before .before .before .fits .limit)
 
 same-length : tie.Need-same-length Inv-loop μ-loop
-same-length c =
-    let s = c .before .before .before .before .before .before .before .before .before .before .before .before in
-    let l = c .before .before .before .before .before .before .before .before .before .loop in
-    c .before .before .before .before .evaluate .kept .1 .1 .1 .1 .1 .0 ∙ l .inv .long ∙ sym (s .pre .3)
+same-length c = c .before .before .values-of .kept .1 .1 .1 .0 ∙ c .before .before .before .before .before .before .before .before .before .before .before .before .before .before .before .before .before .before .loop .inv .long ∙ sym (c .before .before .before .before .before .before .before .before .before .before .before .before .before .before .before .before .before .before .before .before .before .before .before .before .before .before .before .pre .3)
 
 returns : tie.Need-returns Inv-loop μ-loop
 returns c =
-    let s = c .before .before .before .before .before .before .before .before .before .before .before .before in
-    let l = c .before .before .before .before .before .before .before .before .before .loop in
-    falsifies (s .args .table .now) (s .args .nodes) (s .args .variables) (s .args .truths) (s .args .root) (s .args .start) (s .args .limit) (l .values) (l .odometer) (l .tried) (l .inv) (c .before .before .before .before .evaluate .last .1 .1 .1 .1 .1 .0) (c .before .before .before .before .evaluate .ensures) (omega arith) (c .if1 .taken)
+    let inside = c .before .before .before .before .before .if1 .taken in
+    let v = c .before .before .values-of in
+    let f = c .before .before .before .before .before .before .first-false .ensures in
+    let many = lanes-few _ _ (c .before .before .before .before .before .before .before .before .lanes-in .ensures) in
+    let n = c .before .before .before .before .before .before .before .before .before .before .before .before .before .before .before .next in
+    let e = c .before .before .before .before .before .before .before .before .before .before .evaluate in
+    let test = c .before .before .before .before .before .before .before .before .before .before .before .before .before .before .before .before .before .loop-test .taken in
+    let l = c .before .before .before .before .before .before .before .before .before .before .before .before .before .before .before .before .before .before .loop in
+    falsifies _ _ _ _ _ _ _ _ _ _ _ _ (l .inv) _ _ (n .ensures) test _ (e .ensures) _ _ (many .0) (many .1) f inside _ (v .kept .1 .1 .1 .0 ∙ l .inv .long) (v .ensures)
 
-next-requires : tie.Need-next-requires Inv-loop μ-loop
-next-requires c κs = c .before .before .before .before .before .before .before .before .before .loop .inv .turning
+add-tried : tie.Need-add-tried Inv-loop μ-loop
+add-tried c =
+    let many = lanes-few _ _ (c .before .before .before .lanes-in .ensures) in
+    let m = many .1 in
+    omega (arith, c .before .before .before .before .before .before .before .before .before .before .before .before .before .before .before .before .before .before .before .before .before .before .fits .limit)
 
 loop-less : tie.Need-loop-less Inv-loop μ-loop
-loop-less c = omega arith
+loop-less c =
+    let many = lanes-few _ _ (c .before .before .before .lanes-in .ensures) in
+    let test = c .before .before .before .before .before .before .before .before .before .before .before .before .loop-test .taken in
+    omega arith
 
 loop-again : tie.Need-loop-again Inv-loop μ-loop
 loop-again c =
-    let s = c .before .before .before .before .before .before .before .before .before .before .before .before .before .before in
-    let l = c .before .before .before .before .before .before .before .before .before .before .before .loop in
-    goes-on (s .args .table .now) (s .args .nodes) (s .args .variables) (s .args .truths) (s .args .root) (s .args .start) (s .args .limit) (l .values) (l .odometer) (l .tried) (l .inv) (c .before .before .before .before .before .before .evaluate .last .1 .1 .1 .1 .1 .0) (c .before .before .before .before .before .before .evaluate .ensures) (omega arith) (c .before .before .if1 .left) (c .before .before .before .before .before .before .evaluate .kept .1 .1 .1 .1 .1 .0 ∙ l .inv .long) (c .before .next .result) (c .before .next .ensures)
+    let f = c .before .first-false .ensures in
+    let many = lanes-few _ _ (c .before .before .before .lanes-in .ensures) in
+    let n = c .before .before .before .before .before .before .before .before .before .before .next in
+    let e = c .before .before .before .before .before .evaluate in
+    let test = c .before .before .before .before .before .before .before .before .before .before .before .before .loop-test .taken in
+    let l = c .before .before .before .before .before .before .before .before .before .before .before .before .before .loop in
+    goes-on _ _ _ _ _ _ _ _ _ _ _ _ (l .inv) _ _ (n .ensures) test _ (e .ensures) _ _ (many .0) (many .1) f (c .if1 .left)
+    (λ h. let z = many .2 h in omega arith) (e .kept .1 .1 .0 ∙ n .kept .1 .1 .1 .0 ∙ l .inv .cells-long)
 
 same-length-2 : tie.Need-same-length-2 Inv-loop μ-loop
-same-length-2 c = c .before .loop .inv .long ∙ sym (c .before .before .before .before .pre .3)
+same-length-2 c = c .before .loop .inv .long ∙ sym (c .before .before .before .before .before .before .before .before .before .before .pre .3)
 
 returns-2 : tie.Need-returns-2 Inv-loop μ-loop
-returns-2 c =
-    let s = c .before .before .before .before in
-    let l = c .before .loop in
-    ends-walk (s .args .table .now) (s .args .nodes) (s .args .variables) (s .args .truths) (s .args .root) (s .args .start) (s .args .limit) (l .values) (l .odometer) (l .tried) (l .inv) (c .loop-test .left)
+returns-2 c = ends-walk _ _ _ _ _ _ _ _ _ _ _ _ (c .before .loop .inv) (c .loop-test .left)
 
 pub walk-spec : {M : Type 1} → statement M
 walk-spec =
@@ -78,14 +150,27 @@ walk-spec =
     (tie.spec
     Inv-loop
     μ-loop
+    slice-aggregate-decode
+    decode-requires
+    slice-aggregate-lay
+    lay-requires
     loop-holds
-    add-tried
+    slice-aggregate-next
+    next-requires
     slice-aggregate-evaluate
+    slice-aggregate-evaluate-2
     evaluate-requires
-    slice-read-if1
+    sub-lanes-in
+    lanes-in-requires
+    slice-aggregate-first-false
+    first-false-requires
+    slice-aggregate-values-of
+    values-of-requires
+    add-t39
+    add-t40
     same-length
     returns
-    next-requires
+    add-tried
     loop-less
     loop-again
     same-length-2

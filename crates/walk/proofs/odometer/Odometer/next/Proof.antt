@@ -1,62 +1,78 @@
--- The odometer hands on its successor: the loop keeps that the digits before i were at their tops and have gone back to 0.
+-- Sixteen places go to the lanes: the loop keeps that those before the lane stand there, and that the digits are the lane's.
 -- Assumes nothing.
 use borrow.Author.Needs.{needs}
 use native.Mathlib.Omega.{arith}
+use mathlib.Core.Path.{_≡_, sym, _∙_}
+use mathlib.Core.Logic.{inl, inr}
 use Prim.Native.Nat.{_-_}
-use Rattle.walk.proofs.Carrying.{Carrying, begins, digit-below, turned, wrapped, carries}
+use Rattle.walk.proofs.Placing.{Placing, digit-small, placing-begins, placing-more, placing-ends}
 use Rattle.walk.proofs.odometer.Odometer.next.Statement.{statement}
 use Rattle.walk.proofs.odometer.Odometer.next.Tie as tie
 
 abbrev Inv-loop : tie.InvT-loop
-Inv-loop count sizes digits₀ i₀ digits i = Carrying (record { digits = digits₀; sizes = sizes; count = count }) i digits
+Inv-loop variables truths cells₀ count sizes digits₀ ended₀ lane₀ cells digits ended lane =
+    Placing (record { digits = digits₀; sizes = sizes; count = count }) variables truths cells₀ cells digits ended lane
 
 abbrev μ-loop : tie.MeasureT-loop
-μ-loop count sizes digits₀ i₀ digits i = count - i
+μ-loop variables truths cells₀ count sizes digits₀ ended₀ lane₀ cells digits ended lane = 16 - lane
 
 loop-holds : tie.Need-loop-holds Inv-loop μ-loop
-loop-holds c = begins (c .before .before .args .self) (c .before .before .pre)
+loop-holds c = let s = c .before .before .before in placing-begins _ _ _ _ (s .pre .0) (s .pre .1) (s .pre .2)
 
-array-read-if1 : tie.Need-array-read-if1 Inv-loop μ-loop
-array-read-if1 c = let t = c .before .loop .inv .turning .few in omega arith
+slice-aggregate-fill : tie.Need-slice-aggregate-fill Inv-loop μ-loop
+slice-aggregate-fill c = search (needs, c .before .before .before .loop .inv .turning .digits-long)
 
-add-if1 : tie.Need-add-if1 Inv-loop μ-loop
-add-if1 c =
-    let v = c .before .loop .inv in
-    let d = digit-below _ _ _ v (omega arith) in
-    omega (arith, v .turning .sizes-small (c .before .loop .i))
+fill-requires : tie.Need-fill-requires Inv-loop μ-loop
+fill-requires c κs =
+    let v = c .before .before .before .loop .inv in
+    let few = v .turning .few in
+    let n = v .count-is in
+    (omega arith, omega arith, v .turning .digits-long, v .long, digit-small _ (v .turning))
 
-array-read-if1-2 : tie.Need-array-read-if1-2 Inv-loop μ-loop
-array-read-if1-2 c = let t = c .before .loop .inv .turning .few in omega arith
+slice-aggregate-fill-2 : tie.Need-slice-aggregate-fill-2 Inv-loop μ-loop
+slice-aggregate-fill-2 c = search (needs, c .before .before .before .before .before .before .before .before .loop .inv .turning .digits-long)
 
-array-read-digits : tie.Need-array-read-digits Inv-loop μ-loop
-array-read-digits c = let t = c .before .before .loop .inv .turning .few in omega arith
+fill-requires-2 : tie.Need-fill-requires-2 Inv-loop μ-loop
+fill-requires-2 c κs =
+    let v = c .before .before .before .before .before .before .before .before .loop .inv in
+    let l = c .before .before .before .before .fill .kept .0 in
+    (v .turning .few, omega arith, v .turning .digits-long, l ∙ v .long, λ w. omega (arith, digit-small _ (v .turning) w))
 
-add-digits : tie.Need-add-digits Inv-loop μ-loop
-add-digits c =
-    let v = c .before .before .loop .inv in
-    let d = digit-below _ _ _ v (omega arith) in
-    omega (arith, v .turning .sizes-small (c .before .before .loop .i))
+slice-aggregate-advance : tie.Need-slice-aggregate-advance Inv-loop μ-loop
+slice-aggregate-advance c =
+    search (needs, c .before .before .before .before .before .before .before .before .before .before .before .before .loop .inv .turning .digits-long)
 
-array-write-digits : tie.Need-array-write-digits Inv-loop μ-loop
-array-write-digits c = let t = c .before .before .loop .inv .turning .few in omega arith
+slice-aggregate-advance-2 : tie.Need-slice-aggregate-advance-2 Inv-loop μ-loop
+slice-aggregate-advance-2 c =
+    search (needs, c .before .before .before .before .before .before .before .before .before .before .before .before .before .loop .inv .turning .sizes-long)
 
-returns : tie.Need-returns Inv-loop μ-loop
-returns c = turned _ _ _ (c .before .before .loop .inv) (omega arith) (c .if1 .taken)
+advance-requires : tie.Need-advance-requires Inv-loop μ-loop
+advance-requires c κs = c .before .before .before .before .before .before .before .before .before .before .before .before .before .loop .inv .turning
 
-array-write-digits-2 : tie.Need-array-write-digits-2 Inv-loop μ-loop
-array-write-digits-2 c = let t = c .before .before .loop .inv .turning .few in omega arith
-
-add-i : tie.Need-add-i Inv-loop μ-loop
-add-i c = let t = c .before .before .loop .inv .turning .few in omega arith
+add-lane : tie.Need-add-lane Inv-loop μ-loop
+add-lane c = omega arith
 
 loop-less : tie.Need-loop-less Inv-loop μ-loop
 loop-less c = omega arith
 
 loop-again : tie.Need-loop-again Inv-loop μ-loop
-loop-again c = carries _ _ _ (c .before .before .loop .inv) (omega arith) (c .if1 .left)
+loop-again c =
+    let d = c .before in
+    let a = d .before .advance in
+    let g = d .before .before .before .before .before .before .fill2 in
+    let f = d .before .before .before .before .before .before .before .before .before .before .before .fill in
+    let i = d .before .before .before .before .before .before .before .before .before .before .before .before .before .before in
+    let l = i .before .loop in
+    let low = i .loop-test .taken in
+    let long = g .kept .0 ∙ f .kept .0 ∙ l .inv .long in
+    placing-more _ _ _ _ _ _ _ _ (l .inv) low _ _ (f .ensures) (g .ensures) _ (a .ensures) long (c .if1 .ended)
+    (elim (c .if1 .came) [ inl w ↦ inl (w .0 .taken, w .1) | inr w ↦ inr (w .1) ])
 
-returns-2 : tie.Need-returns-2 Inv-loop μ-loop
-returns-2 c = wrapped _ _ _ (c .before .loop .inv) (omega arith)
+same-length : tie.Need-same-length Inv-loop μ-loop
+same-length c = c .before .loop .inv .long ∙ sym (c .before .before .before .before .before .pre .2)
+
+returns : tie.Need-returns Inv-loop μ-loop
+returns c = placing-ends _ _ _ _ _ _ _ _ (c .before .loop .inv) (omega arith)
 
 pub next-spec : {M : Type 1} → statement M
 next-spec =
@@ -65,15 +81,15 @@ next-spec =
     Inv-loop
     μ-loop
     loop-holds
-    array-read-if1
-    add-if1
-    array-read-if1-2
-    array-read-digits
-    add-digits
-    array-write-digits
-    returns
-    array-write-digits-2
-    add-i
+    slice-aggregate-fill
+    fill-requires
+    slice-aggregate-fill-2
+    fill-requires-2
+    slice-aggregate-advance
+    slice-aggregate-advance-2
+    advance-requires
+    add-lane
     loop-less
     loop-again
-    returns-2)
+    same-length
+    returns)

@@ -1,0 +1,63 @@
+-- A lane on its way to hold a place: the digits before v are laid, and nothing else has changed. Assumes nothing.
+use mathlib.Core.Path.{_≡_, refl, ap, sym, _∙_}
+use Prim.Native.Nat.{ℕ, _+_, _*_, _≤_, _<_}
+use native.Mathlib.Omega.{arith}
+use mathlib.Core.List.{List}
+use mathlib.Core.Logic.{_⊎_, inl, inr}
+use lib.ListN.{length, getD, set, length-set}
+use lib.Seq.{getD-set-same, getD-set-other}
+use Rattle.theorems.proofs.Laws.Tests.{split}
+use Rattle.walk.specs.Cells.{cell, Filled}
+
+pub record Filling (ds : List ℕ) (from to least lane : ℕ) (before cells : List ℕ) (v : ℕ) : Type 0 where
+  pub filled : Filled ds from v least lane before cells
+  pub long : length cells ≡ 42784
+  pub begun : from ≤ v
+  pub inside : (w : ℕ) → from ≤ w → w < v → w < to
+
+module _ (ds : List ℕ) (from to least lane : ℕ) (before : List ℕ) where
+  pub filling-begins : length before ≡ 42784 → Filling ds from to least lane before before from
+  filling-begins l =
+      record {
+        filled = record { inside = λ w a b. absurd (omega arith); outside = λ i no. refl };
+        long = l;
+        begun = omega arith;
+        inside = λ w a b. absurd (omega arith);
+      }
+
+  module _ (cells : List ℕ) (v : ℕ) (f : Filling ds from to least lane before cells v) where
+    -- one digit more
+    pub filling-more : v < to → v < 40 → lane < 16
+        → Filling ds from to least lane before (set cells (16 * (2634 + v) + lane) (getD ds v 0 + least)) (v + 1)
+    filling-more h few low =
+        let at = 16 * (2634 + v) + lane in
+        let x = getD ds v 0 + least in
+        let l = f .long in
+        let b = f .begun in
+        record {
+          filled =
+              record {
+                inside =
+                    λ w g u.
+                    elim (split w v) [
+                      | inl q ↦ getD-set-other cells at (16 * (2634 + w) + lane) x 0 (λ e. omega arith) ∙ f .filled .inside w g q
+                      | inr q ↦
+                          let e : w ≡ v = omega arith in
+                          ap (λ m. getD (set cells at x) (16 * (2634 + m) + lane) 0) e ∙ getD-set-same cells at x 0 (omega arith)
+                          ∙ ap (λ m. getD ds m 0 + least) (sym e)
+                    ];
+                outside =
+                    λ i no.
+                    getD-set-other cells at i x 0 (no v b (omega arith)) ∙ f .filled .outside i (λ w g u. no w g (omega arith));
+              };
+          long = length-set cells at x ∙ l;
+          begun = omega arith;
+          inside = λ w g u. omega arith;
+        }
+
+    pub filling-ends : to ≤ v → Filled ds from to least lane before cells
+    filling-ends h =
+        record {
+          inside = λ w g u. f .filled .inside w g (omega arith);
+          outside = λ i no. f .filled .outside i (λ w g u. no w g (f .inside w g u));
+        }

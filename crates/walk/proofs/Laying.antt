@@ -1,0 +1,205 @@
+-- Sixteen lanes: what a sum takes for a choice, and lanes picked, laid and copied one by one. Assumes nothing.
+use mathlib.Core.Path.{_≡_, refl, sym, ap, _∙_, subst}
+use Prim.Native.Nat.{ℕ, _+_, _*_, _-_, _≤_, _<_}
+use native.Mathlib.Omega.{arith}
+use mathlib.Core.Bool.{Bool, true, false}
+use mathlib.Core.List.{List}
+use mathlib.Core.Logic.{_⊎_, inl, inr}
+use lib.ListN.{length, getD, set, length-set}
+use lib.Seq.{getD-set-same, getD-set-other}
+use lib.Dec.{eqb}
+use borrow.Author.Tests.{eq-eqb, ne-eqb}
+use Rattle.theorems.proofs.Laws.Tests.{split}
+use Rattle.walk.specs.Cells.{cell, chosen, Earlier, Ready, Picked, LanesLaid, Solved, LaneCopied}
+
+-- a choice by a truth value
+abbrev by : Bool → ℕ → ℕ → ℕ
+by b same apart = elim b as (λ _. ℕ) [ true ↦ same | false ↦ apart ]
+
+pub chosen-same : (x y same apart : ℕ) → x ≡ y → chosen x y same apart ≡ same
+chosen-same x y same apart e = ap (λ b. by b same apart) (eq-eqb x y e)
+
+pub chosen-apart : (x y same apart : ℕ) → (x ≡ y → ⊥) → chosen x y same apart ≡ apart
+chosen-apart x y same apart n = ap (λ b. by b same apart) (ne-eqb x y n)
+
+by-bit : (b : Bool) → (e : ℕ) → e ≡ by b 1 0 → (e ≡ 0) ⊎ (e ≡ 1)
+by-bit true e h = inr h
+by-bit false e h = inl h
+
+-- 1 for equal and 0 for others is a bit
+pub is-bit : (x y e : ℕ) → e ≡ chosen x y 1 0 → (e ≡ 0) ⊎ (e ≡ 1)
+is-bit x y e h = by-bit (eqb x y) e h
+
+-- a bit is at most 1
+pub bit-small : (e : ℕ) → (e ≡ 0) ⊎ (e ≡ 1) → e ≤ 1
+bit-small e (inl h) = omega arith
+bit-small e (inr h) = omega arith
+
+-- a bit times a number is at most that number
+pub bit-times : (e n : ℕ) → (e ≡ 0) ⊎ (e ≡ 1) → e * n ≤ n
+bit-times e n (inl h) = subst (λ m. m * n ≤ n) (sym h) (omega arith)
+bit-times e n (inr h) = subst (λ m. m * n ≤ n) (sym h) (omega arith)
+
+pub rest-times : (e n : ℕ) → (e ≡ 0) ⊎ (e ≡ 1) → (1 - e) * n ≤ n
+rest-times e n (inl h) = subst (λ m. (1 - m) * n ≤ n) (sym h) (omega arith)
+rest-times e n (inr h) = subst (λ m. (1 - m) * n ≤ n) (sym h) (omega arith)
+
+by-sum : (b : Bool) → (e same apart : ℕ) → e ≡ by b 1 0 → e * same + (1 - e) * apart ≡ by b same apart
+by-sum true e same apart h = subst (λ m. m * same + (1 - m) * apart ≡ same) (sym h) (omega arith)
+by-sum false e same apart h = subst (λ m. m * same + (1 - m) * apart ≡ apart) (sym h) (omega arith)
+
+-- the sum is the choice
+pub sum-chosen : (x y e same apart : ℕ) → e ≡ chosen x y 1 0 → e * same + (1 - e) * apart ≡ chosen x y same apart
+sum-chosen x y e same apart h = by-sum (eqb x y) e same apart h
+
+by-sum-small : (b : Bool) → (e same apart : ℕ) → e ≡ by b 1 0 → same ≤ 255 → apart ≤ 255 → e * same + (1 - e) * apart ≤ 255
+by-sum-small true e same apart h s a = subst (λ m. m * same + (1 - m) * apart ≤ 255) (sym h) (omega arith)
+by-sum-small false e same apart h s a = subst (λ m. m * same + (1 - m) * apart ≤ 255) (sym h) (omega arith)
+
+-- and it fits a byte
+pub sum-small : (x y e same apart : ℕ) → e ≡ chosen x y 1 0 → same ≤ 255 → apart ≤ 255 → e * same + (1 - e) * apart ≤ 255
+sum-small x y e same apart h s a = by-sum-small (eqb x y) e same apart h s a
+
+-- the first n of the lanes that a branch takes
+pub record Picking (cells : List ℕ) (left right same apart : ℕ) (lanes : List ℕ) (n : ℕ) : Type 0 where
+  pub inside : n ≤ 16
+  pub long : length lanes ≡ 16
+  pub lane : (l : ℕ) → l < n
+      → getD lanes l 0 ≡ chosen (getD cells (left + l) 0) (getD cells (right + l) 0) (getD cells (same + l) 0) (getD cells (apart + l) 0)
+
+module _ (cells : List ℕ) (left right same apart : ℕ) where
+  -- what a branch takes in lane l
+  abbrev takes : ℕ → ℕ
+  takes l = chosen (getD cells (left + l) 0) (getD cells (right + l) 0) (getD cells (same + l) 0) (getD cells (apart + l) 0)
+
+  pub picks-none : (lanes : List ℕ) → length lanes ≡ 16 → Picking cells left right same apart lanes 0
+  picks-none lanes long = record { inside = omega arith; long = long; lane = λ l h. absurd (omega arith) }
+
+  pub picks-more : (lanes : List ℕ) → (n x : ℕ) → Picking cells left right same apart lanes n → n < 16 → x ≡ takes n
+      → Picking cells left right same apart (set lanes n x) (n + 1)
+  picks-more lanes n x p h e =
+      record {
+        inside = omega arith;
+        long = length-set lanes n x ∙ p .long;
+        lane =
+            λ l b.
+            elim (split l n) [
+              | inl u ↦ getD-set-other lanes n l x 0 (λ q. omega arith) ∙ p .lane l u
+              | inr u ↦
+                  let q : n ≡ l = omega arith in
+                  let long = p .long in
+                  subst (λ m. getD (set lanes n x) m 0 ≡ takes m) q (getD-set-same lanes n x 0 (omega arith) ∙ e)
+            ];
+      }
+
+  pub picks-all : (lanes : List ℕ) → (n : ℕ) → Picking cells left right same apart lanes n → 16 ≤ n
+      → Picked cells left right same apart lanes
+  picks-all lanes n p h = record { long = p .long; lane = λ l b. p .lane l (omega arith) }
+
+-- the first n of sixteen lanes laid at a place of the cells
+pub record Laying (before : List ℕ) (at : ℕ) (lanes after : List ℕ) (n : ℕ) : Type 0 where
+  pub reach : n ≤ 16
+  pub long : length after ≡ length before
+  pub inside : (l : ℕ) → l < n → getD after (at + l) 0 ≡ getD lanes l 0
+  pub outside : (i : ℕ) → (i < at) ⊎ (at + 16 ≤ i) → getD after i 0 ≡ getD before i 0
+
+module _ (before : List ℕ) (at : ℕ) (lanes : List ℕ) where
+  pub lays-none : Laying before at lanes before 0
+  lays-none = record { reach = omega arith; long = refl; inside = λ l h. absurd (omega arith); outside = λ i h. refl }
+
+  apart-from : (i n : ℕ) → n < 16 → (i < at) ⊎ (at + 16 ≤ i) → i ≡ at + n → ⊥
+  apart-from i n h (inl b) e = omega arith
+  apart-from i n h (inr b) e = omega arith
+
+  pub lays-more : (after : List ℕ) → (n : ℕ) → Laying before at lanes after n → n < 16 → at + 16 ≤ length before
+      → Laying before at lanes (set after (at + n) (getD lanes n 0)) (n + 1)
+  lays-more after n p h room =
+      let x = getD lanes n 0 in
+      let long = p .long in
+      record {
+        reach = omega arith;
+        long = length-set after (at + n) x ∙ long;
+        inside =
+            λ l b.
+            elim (split l n) [
+              | inl u ↦ getD-set-other after (at + n) (at + l) x 0 (λ q. omega arith) ∙ p .inside l u
+              | inr u ↦
+                  let q : n ≡ l = omega arith in
+                  subst (λ m. getD (set after (at + n) x) (at + m) 0 ≡ getD lanes m 0) q (getD-set-same after (at + n) x 0 (omega arith))
+            ];
+        outside = λ i b. getD-set-other after (at + n) i x 0 (apart-from i n h b) ∙ p .outside i b;
+      }
+
+  pub lays-all : (after : List ℕ) → (n : ℕ) → Laying before at lanes after n → 16 ≤ n → LanesLaid before at lanes after
+  lays-all after n p h = record { inside = λ l b. p .inside l (omega arith); outside = p .outside }
+
+-- one node's value more
+pub copies-more : (cells : List ℕ) → (lane k : ℕ) → (vals : List ℕ) → LaneCopied cells lane k vals → k < length vals
+    → LaneCopied cells lane (k + 1) (set vals k (cell cells k lane))
+copies-more cells lane k vals p h =
+    let x = cell cells k lane in
+    record {
+      copied =
+          λ j b.
+          elim (split j k) [
+            | inl u ↦ getD-set-other vals k j x 0 (λ q. omega arith) ∙ p .copied j u
+            | inr u ↦
+                let q : k ≡ j = omega arith in
+                subst (λ m. getD (set vals k x) m 0 ≡ cell cells m lane) q (getD-set-same vals k x 0 h)
+          ];
+    }
+
+-- what a branch of node j takes in lane l, from where its four cells stand
+abbrev branchTakes : List ℕ → List ℕ → ℕ → ℕ → ℕ
+branchTakes bs cells j l =
+    chosen (getD cells (getD bs (4 * j) 0 + l) 0) (getD cells (getD bs (4 * j + 1) 0 + l) 0) (getD cells (getD bs (4 * j + 2) 0 + l) 0)
+    (getD cells (getD bs (4 * j + 3) 0 + l) 0)
+
+-- what stands ready for a node lies within the cells
+pub room : (k at w : ℕ) → (cells : List ℕ) → k < 2632 → length cells ≡ 42784 → Earlier k at → w ≡ at → w + 16 ≤ length cells
+room k at w cells h long (inl e) q = omega arith
+room k at w cells h long (inr e) q = let u = e .1 in omega arith
+
+chosen-equal : (x y p q x' y' p' q' : ℕ) → x ≡ x' → y ≡ y' → p ≡ p' → q ≡ q' → chosen x y p q ≡ chosen x' y' p' q'
+chosen-equal x y p q x' y' p' q' a b c d =
+    ap (λ n. chosen n y p q) a ∙ ap (λ n. chosen x' n p q) b ∙ ap (λ n. chosen x' y' n q) c ∙ ap (λ n. chosen x' y' p' n) d
+
+pub picked-equal : (cells lanes : List ℕ) → (x y p q x' y' p' q' : ℕ) → x ≡ x' → y ≡ y' → p ≡ p' → q ≡ q'
+    → Picked cells x y p q lanes → Picked cells x' y' p' q' lanes
+picked-equal cells lanes x y p q x' y' p' q' a b c d v =
+    subst (λ n. Picked cells n y' p' q' lanes) a
+    (subst (λ n. Picked cells x n p' q' lanes) b
+    (subst (λ n. Picked cells x y n q' lanes) c
+    (subst (λ n. Picked cells x y p n lanes) d v)))
+
+-- lanes laid for node k leave what the nodes up to k read as it was
+module _ (bs cells lanes after : List ℕ) (k : ℕ) (few : k < 2632) (laid : LanesLaid cells (16 * k) lanes after) where
+  read-kept : (j at l : ℕ) → j ≤ k → l < 16 → Earlier j at → getD after (at + l) 0 ≡ getD cells (at + l) 0
+  read-kept j at l h b (inl e) = laid .outside (at + l) (inl (omega arith))
+  read-kept j at l h b (inr e) = laid .outside (at + l) (inr (let u = e .0 in omega arith))
+
+  takes-kept : (j l : ℕ) → j ≤ k → l < 16 → Ready bs j → branchTakes bs cells j l ≡ branchTakes bs after j l
+  takes-kept j l h b r =
+      chosen-equal _ _ _ _ _ _ _ _ (sym (read-kept j _ l h b (r .left))) (sym (read-kept j _ l h b (r .right)))
+      (sym (read-kept j _ l h b (r .same))) (sym (read-kept j _ l h b (r .apart)))
+
+  -- so one node more is solved
+  pub solves-more : (before : List ℕ) → ((j : ℕ) → j ≤ k → Ready bs j)
+      → Picked cells (getD bs (4 * k) 0) (getD bs (4 * k + 1) 0) (getD bs (4 * k + 2) 0) (getD bs (4 * k + 3) 0) lanes
+      → Solved bs before cells k → Solved bs before after (k + 1)
+  solves-more before ready picked s =
+      record {
+        solves =
+            λ j l h b.
+            elim (split j k) [
+              | inl u ↦
+                  laid .outside (16 * j + l) (inl (omega arith))
+                  ∙ s .solves j l u b
+                  ∙ takes-kept j l (omega arith) b (ready j (omega arith))
+              | inr u ↦
+                  let q : k ≡ j = omega arith in
+                  subst (λ m. cell after m l ≡ branchTakes bs after m l) q
+                  (laid .inside l b ∙ picked .lane l b ∙ takes-kept k l (omega arith) b (ready k (omega arith)))
+            ];
+        kept = λ i h. laid .outside i (inr (omega arith)) ∙ s .kept i h;
+      }

@@ -1,0 +1,130 @@
+-- Where every branch is solved, each lane has the values of its place: a node's branch takes what the node's op says. By
+-- induction on the node. Assumes nothing.
+use mathlib.Core.Path.{_≡_, refl, ap, sym, _∙_, subst}
+use Prim.Native.Nat.{ℕ, zero, suc, _+_, _*_, _≤_, _<_}
+use native.Mathlib.Omega.{arith}
+use mathlib.Core.Bool.{Bool, true, false}
+use mathlib.Core.List.{List}
+use mathlib.Core.Logic.{_⊎_, inl, inr}
+use lib.ListN.{getD}
+use lib.Dec.{eqb}
+use borrow.Author.Tests.{eqb-true, eqb-false}
+use Rattle.definitions.specs.Problem.Node.{Node, node}
+use Rattle.definitions.specs.Problem.Ops.{opOf}
+use Rattle.theorems.proofs.Laws.Tests.{split}
+use Rattle.ranges.specs.Table.{TableIn, tableIn}
+use Rattle.walk.specs.Cells.{cell, chosen, branchBy, branchOf, Decoded, Solved, Constant, LaneHolds}
+use Rattle.walk.specs.Digits.{Digits, valueIn}
+use Rattle.walk.specs.declared.branches.Branch.{Branch}
+use Rattle.walk.proofs.Values.{
+  variable-named,
+  truth-named,
+  at-variable,
+  at-truth,
+  at-yes,
+  at-no,
+  at-choice,
+  at-select,
+  at-equal,
+  at-differ,
+  at-not,
+  at-and,
+  at-or,
+  no-other,
+}
+
+-- a choice, by its two cases
+chosen-is : (x y p q r : ℕ) → (x ≡ y → p ≡ r) → ((x ≡ y → ⊥) → q ≡ r) → chosen x y p q ≡ r
+chosen-is x y p q r same apart = go (eqb x y) refl
+  where
+    go : (b : Bool) → eqb x y ≡ b → (elim b as (λ _. ℕ) [ true ↦ p | false ↦ q ]) ≡ r
+    go true e = same (eqb-true x y e)
+    go false e = apart (eqb-false x y e)
+
+module _
+    (table : List ℕ)
+    (nodes N P : ℕ)
+    (tab : TableIn table nodes N P)
+    (bs before cells : List ℕ)
+    (decoded : Decoded table nodes N bs nodes)
+    (solved : Solved bs before cells nodes)
+    (constant : Constant cells)
+    (l : ℕ)
+    (low : l < 16)
+    (ds : List ℕ)
+    (holds : LaneHolds N P ds cells l)
+    (digits : Digits N P ds) where
+  abbrev val : ℕ → ℕ
+  val c = cell cells c l
+
+  abbrev value : ℕ → ℕ
+  value k = valueIn table nodes N ds k
+
+  -- what a branch takes in the lane
+  abbrev takes : Branch → ℕ
+  takes b = chosen (val (b .left)) (val (b .right)) (val (b .same)) (val (b .apart))
+
+  module _ (k : ℕ) (below : k < nodes) (known : (i : ℕ) → i < k → val i ≡ value i) where
+    abbrev n : Node
+    n = node (tableIn table nodes) k
+
+    by-branch : val k ≡ takes (branchOf N n)
+    by-branch =
+        let s = decoded .stored k below in
+        solved .solves k l below low
+        ∙ ap (λ x. chosen (getD cells (x + l) 0) (getD cells (getD bs (4 * k + 1) 0 + l) 0) (getD cells (getD bs (4 * k + 2) 0 + l) 0) (getD cells (getD bs (4 * k + 3) 0 + l) 0)) (s .left-is)
+        ∙ ap (λ x. chosen (val (branchOf N n .left)) (getD cells (x + l) 0) (getD cells (getD bs (4 * k + 2) 0 + l) 0) (getD cells (getD bs (4 * k + 3) 0 + l) 0)) (s .right-is)
+        ∙ ap (λ x. chosen (val (branchOf N n .left)) (val (branchOf N n .right)) (getD cells (x + l) 0) (getD cells (getD bs (4 * k + 3) 0 + l) 0)) (s .same-is)
+        ∙ ap (λ x. chosen (val (branchOf N n .left)) (val (branchOf N n .right)) (val (branchOf N n .same)) (getD cells (x + l) 0)) (s .apart-is)
+
+    -- a cell as it stands
+    itself : (c r : ℕ) → val c ≡ r → chosen (val c) (val c) (val c) (val c) ≡ r
+    itself c r e = chosen-is (val c) (val c) (val c) (val c) r (λ _. e) (λ _. e)
+
+    -- a choice by whether a cell is true
+    where-one : (a p q r : ℕ) → (val a ≡ 1 → p ≡ r) × ((val a ≡ 1 → ⊥) → q ≡ r) → chosen (val a) (val 2633) p q ≡ r
+    where-one a p q r w =
+        let yes = constant .yes l low in
+        chosen-is (val a) (val 2633) p q r (λ e. w .0 (e ∙ yes)) (λ e. w .1 (λ z. e (z ∙ sym yes)))
+
+    -- the branch of an op takes its value
+    takes-value : (op : ℕ) → n .op ≡ op → takes (branchBy N n (opOf op)) ≡ value k
+    takes-value zero q =
+        itself (2634 + n .sym) (value k)
+        (holds .variable (n .sym) (variable-named table nodes N P tab ds k below val known q) ∙ at-variable table nodes N P tab ds k below val known q)
+    takes-value (suc zero) q = where-one (n .a) (val (n .b)) (val (n .c)) (value k) (at-choice table nodes N P tab ds k below val known q)
+    takes-value (suc (suc zero)) q =
+        chosen-is (val (n .a)) (val (n .b)) (val 2633) (val 2632) (value k)
+        (λ e. constant .yes l low ∙ at-equal table nodes N P tab ds k below val known q e)
+        (λ e. constant .no l low ∙ at-differ table nodes N P tab ds k below val known q e)
+    takes-value (suc (suc (suc zero))) q =
+        let w = at-not table nodes N P tab ds k below val known q in
+        where-one (n .a) (val 2632) (val 2633) (value k) (λ e. constant .no l low ∙ w .0 e, λ e. constant .yes l low ∙ w .1 e)
+    takes-value (suc (suc (suc (suc zero)))) q =
+        let w = at-and table nodes N P tab ds k below val known q in
+        where-one (n .a) (val (n .b)) (val 2632) (value k) (w .0, λ e. constant .no l low ∙ w .1 e)
+    takes-value (suc (suc (suc (suc (suc zero))))) q =
+        let w = at-or table nodes N P tab ds k below val known q in
+        where-one (n .a) (val 2633) (val (n .b)) (value k) (λ e. constant .yes l low ∙ w .0 e, w .1)
+    takes-value (suc (suc (suc (suc (suc (suc zero)))))) q =
+        itself (2634 + (N + n .sym)) (value k)
+        (holds .truth (n .sym) (truth-named table nodes N P tab ds k below val known q) ∙ at-truth table nodes N P tab ds k below val known digits q)
+    takes-value (suc (suc (suc (suc (suc (suc (suc zero))))))) q =
+        itself 2633 (value k) (constant .yes l low ∙ at-yes table nodes N P tab ds k below val known q)
+    takes-value (suc (suc (suc (suc (suc (suc (suc (suc zero)))))))) q =
+        itself 2632 (value k) (constant .no l low ∙ at-no table nodes N P tab ds k below val known q)
+    takes-value (suc (suc (suc (suc (suc (suc (suc (suc (suc zero))))))))) q =
+        where-one (n .a) (val (n .b)) (val (n .c)) (value k) (at-select table nodes N P tab ds k below val known q)
+    takes-value (suc (suc (suc (suc (suc (suc (suc (suc (suc (suc op)))))))))) q =
+        absurd (no-other table nodes N P tab ds k below val known _ q refl)
+
+    step : val k ≡ value k
+    step = by-branch ∙ takes-value (n .op) refl
+
+  -- the nodes before m
+  values-before : (m k : ℕ) → k < m → k < nodes → val k ≡ value k
+  values-before zero k h b = absurd (omega arith)
+  values-before (suc m) k h b = step k b (λ i g. values-before m i (omega arith) (omega arith))
+
+  pub lane-value : (k : ℕ) → k < nodes → cell cells k l ≡ valueIn table nodes N ds k
+  lane-value k b = values-before (suc k) k (omega arith) b

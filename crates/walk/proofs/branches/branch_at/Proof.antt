@@ -1,0 +1,237 @@
+-- `branch_at` makes of a node's bytes the branch that the definition has for its op: one law for each kind of node.
+-- Assumes nothing.
+use borrow.Author.Needs.{needs}
+use mathlib.Core.Path.{_∙_}
+use Prim.Native.Nat.{_*_}
+use Rattle.walk.proofs.Branching.{as-variable, as-choice, as-equal, as-not, as-and, as-or, as-truth, as-yes, as-rest}
+use Rattle.walk.proofs.branches.branch_at.Statement.{statement}
+use Rattle.walk.proofs.branches.branch_at.Tie as tie
+
+mul-at : tie.Need-mul-at
+mul-at c = search needs
+
+shared-slice-read-op : tie.Need-shared-slice-read-op
+shared-slice-read-op c = search needs
+
+add-wide : tie.Need-add-wide
+add-wide c = search needs
+
+shared-slice-read-wide : tie.Need-shared-slice-read-wide
+shared-slice-read-wide c = search needs
+
+wide-requires : tie.Need-wide-requires
+wide-requires c κs = search needs
+
+add-itself : tie.Need-add-itself
+add-itself c = search needs
+
+itself-requires : tie.Need-itself-requires
+itself-requires c κs = search needs
+
+add-two-at : tie.Need-add-two-at
+add-two-at c = search needs
+
+two-at-requires : tie.Need-two-at-requires
+two-at-requires c κs = search needs
+
+add-two-at-2 : tie.Need-add-two-at-2
+add-two-at-2 c = search needs
+
+two-at-requires-2 : tie.Need-two-at-requires-2
+two-at-requires-2 c κs = search needs
+
+add-two-at-3 : tie.Need-add-two-at-3
+add-two-at-3 c = search needs
+
+two-at-requires-3 : tie.Need-two-at-requires-3
+two-at-requires-3 c κs = search needs
+
+where-true-requires : tie.Need-where-true-requires
+where-true-requires c κs = search needs
+
+add-two-at-4 : tie.Need-add-two-at-4
+add-two-at-4 c = search needs
+
+two-at-requires-4 : tie.Need-two-at-requires-4
+two-at-requires-4 c κs = search needs
+
+add-two-at-5 : tie.Need-add-two-at-5
+add-two-at-5 c = search needs
+
+two-at-requires-5 : tie.Need-two-at-requires-5
+two-at-requires-5 c κs = search needs
+
+add-two-at-6 : tie.Need-add-two-at-6
+add-two-at-6 c = search needs
+
+two-at-requires-6 : tie.Need-two-at-requires-6
+two-at-requires-6 c κs = search needs
+
+where-true-requires-2 : tie.Need-where-true-requires-2
+where-true-requires-2 c κs = search needs
+
+add-two-at-7 : tie.Need-add-two-at-7
+add-two-at-7 c = search needs
+
+two-at-requires-7 : tie.Need-two-at-requires-7
+two-at-requires-7 c κs = search needs
+
+add-two-at-8 : tie.Need-add-two-at-8
+add-two-at-8 c = search needs
+
+two-at-requires-8 : tie.Need-two-at-requires-8
+two-at-requires-8 c κs = search needs
+
+where-true-requires-3 : tie.Need-where-true-requires-3
+where-true-requires-3 c κs = search needs
+
+add-two-at-9 : tie.Need-add-two-at-9
+add-two-at-9 c = search needs
+
+two-at-requires-9 : tie.Need-two-at-requires-9
+two-at-requires-9 c κs = search needs
+
+add-two-at-10 : tie.Need-add-two-at-10
+add-two-at-10 c = search needs
+
+two-at-requires-10 : tie.Need-two-at-requires-10
+two-at-requires-10 c κs = search needs
+
+where-true-requires-4 : tie.Need-where-true-requires-4
+where-true-requires-4 c κs = search needs
+
+add-wide-2 : tie.Need-add-wide-2
+add-wide-2 c = search needs
+
+shared-slice-read-wide-2 : tie.Need-shared-slice-read-wide-2
+shared-slice-read-wide-2 c = search needs
+
+wide-requires-2 : tie.Need-wide-requires-2
+wide-requires-2 c κs = search needs
+
+add-itself-2 : tie.Need-add-itself-2
+add-itself-2 c = search needs
+
+add-itself-3 : tie.Need-add-itself-3
+add-itself-3 c = search needs
+
+itself-requires-2 : tie.Need-itself-requires-2
+itself-requires-2 c κs = search needs
+
+itself-requires-3 : tie.Need-itself-requires-3
+itself-requires-3 c κs = search needs
+
+itself-requires-4 : tie.Need-itself-requires-4
+itself-requires-4 c κs = search needs
+
+returns : tie.Need-returns
+returns c =
+    let s = c .before .before .before .before .before .before in
+    c .itself .ensures
+    ∙ as-variable (s .args .table .now) (s .args .variables) (8 * s .args .k) (c .before .wide .result) (c .before .wide .ensures .0) (c .before .before .before .match .keys1)
+
+returns-2 : tie.Need-returns-2
+returns-2 c =
+    let s = c .before .before .before .before .before .before .before in
+    c .where-true .ensures
+    ∙ as-choice (s .args .table .now) (s .args .variables) (8 * s .args .k) (c .before .before .before .two-at .result) (c .before .before .two-at2 .result) (c .before .two-at3 .result)
+    (c .before .before .before .two-at .ensures .0) (c .before .before .two-at2 .ensures .0) (c .before .two-at3 .ensures .0)
+    (c .before .before .before .before .match .keys2)
+
+returns-3 : tie.Need-returns-3
+returns-3 c =
+    let s = c .before .before .before .before .before in
+    as-equal (s .args .table .now) (s .args .variables) (8 * s .args .k) (c .before .two-at4 .result) (c .two-at5 .result) (c .before .two-at4 .ensures .0) (c .two-at5 .ensures .0)
+    (c .before .before .match .keys3)
+
+returns-4 : tie.Need-returns-4
+returns-4 c =
+    let s = c .before .before .before .before .before in
+    c .where-true2 .ensures
+    ∙ as-not (s .args .table .now) (s .args .variables) (8 * s .args .k) (c .before .two-at6 .result) (c .before .two-at6 .ensures .0) (c .before .before .match .keys4)
+
+returns-5 : tie.Need-returns-5
+returns-5 c =
+    let s = c .before .before .before .before .before .before in
+    c .where-true3 .ensures
+    ∙ as-and (s .args .table .now) (s .args .variables) (8 * s .args .k) (c .before .before .two-at7 .result) (c .before .two-at8 .result) (c .before .before .two-at7 .ensures .0)
+    (c .before .two-at8 .ensures .0) (c .before .before .before .match .keys5)
+
+returns-6 : tie.Need-returns-6
+returns-6 c =
+    let s = c .before .before .before .before .before .before in
+    c .where-true4 .ensures
+    ∙ as-or (s .args .table .now) (s .args .variables) (8 * s .args .k) (c .before .before .two-at9 .result) (c .before .two-at10 .result) (c .before .before .two-at9 .ensures .0)
+    (c .before .two-at10 .ensures .0) (c .before .before .before .match .keys6)
+
+returns-7 : tie.Need-returns-7
+returns-7 c =
+    let s = c .before .before .before .before .before .before in
+    c .itself2 .ensures
+    ∙ as-truth (s .args .table .now) (s .args .variables) (8 * s .args .k) (c .before .wide2 .result) (c .before .wide2 .ensures .0) (c .before .before .before .match .keys7)
+
+returns-8 : tie.Need-returns-8
+returns-8 c =
+    let s = c .before .before .before .before in
+    c .itself3 .ensures
+    ∙ as-yes (s .args .table .now) (s .args .variables) (8 * s .args .k) (c .before .match .keys8)
+
+returns-9 : tie.Need-returns-9
+returns-9 c =
+    let s = c .before .before .before .before in
+    let r = c .before .match .rest in
+    c .itself4 .ensures
+    ∙ as-rest (s .args .table .now) (s .args .variables) (8 * s .args .k) (r .0 .0 .0 .0 .0 .0 .0 .1) (r .0 .0 .0 .0 .0 .0 .1) (r .0 .0 .0 .0 .0 .1) (r .0 .0 .0 .0 .1) (r .0 .0 .0 .1) (r .0 .0 .1) (r .0 .1) (r .1)
+
+pub branch-at-spec : {M : Type 1} → statement M
+branch-at-spec =
+    tie.close
+    (tie.spec
+    mul-at
+    shared-slice-read-op
+    add-wide
+    shared-slice-read-wide
+    wide-requires
+    add-itself
+    itself-requires
+    add-two-at
+    two-at-requires
+    add-two-at-2
+    two-at-requires-2
+    add-two-at-3
+    two-at-requires-3
+    where-true-requires
+    add-two-at-4
+    two-at-requires-4
+    add-two-at-5
+    two-at-requires-5
+    add-two-at-6
+    two-at-requires-6
+    where-true-requires-2
+    add-two-at-7
+    two-at-requires-7
+    add-two-at-8
+    two-at-requires-8
+    where-true-requires-3
+    add-two-at-9
+    two-at-requires-9
+    add-two-at-10
+    two-at-requires-10
+    where-true-requires-4
+    add-wide-2
+    shared-slice-read-wide-2
+    wide-requires-2
+    add-itself-2
+    add-itself-3
+    itself-requires-2
+    itself-requires-3
+    itself-requires-4
+    returns
+    returns-2
+    returns-3
+    returns-4
+    returns-5
+    returns-6
+    returns-7
+    returns-8
+    returns-9)

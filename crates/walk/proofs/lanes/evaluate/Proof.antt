@@ -1,0 +1,162 @@
+-- `evaluate` solves the nodes in order: the loop keeps that the first k are what their branches take. A branch reads only what
+-- stands before its node, so laying a node leaves the reads of the nodes up to it as they were. Assumes nothing.
+use borrow.Author.Needs.{needs}
+use native.Mathlib.Omega.{arith}
+use mathlib.Core.Path.{_≡_, refl, sym, _∙_, subst}
+use Prim.Native.Nat.{_+_, _*_, _-_, _≤_}
+use lib.ListN.{length}
+use Rattle.walk.specs.Cells.{Solved}
+use Rattle.walk.proofs.Laying.{room, picked-equal, solves-more}
+use Rattle.walk.proofs.lanes.evaluate.Statement.{statement}
+use Rattle.walk.proofs.lanes.evaluate.Tie as tie
+
+abbrev Inv-loop : tie.InvT-loop
+Inv-loop branches nodes cells₀ k₀ cells k = (k ≤ nodes) × (length cells ≡ 42784) × Solved branches cells₀ cells k
+
+abbrev μ-loop : tie.MeasureT-loop
+μ-loop branches nodes cells₀ k₀ cells k = nodes - k
+
+loop-holds : tie.Need-loop-holds Inv-loop μ-loop
+loop-holds c = (omega arith, c .before .before .pre .2, record { solves = λ j l h. absurd (omega arith); kept = λ i h. refl })
+
+mul-wide : tie.Need-mul-wide Inv-loop μ-loop
+mul-wide c = omega arith
+
+mul-wide-2 : tie.Need-mul-wide-2 Inv-loop μ-loop
+mul-wide-2 c = omega arith
+
+shared-slice-read-wide : tie.Need-shared-slice-read-wide Inv-loop μ-loop
+shared-slice-read-wide c = omega arith
+
+wide-requires : tie.Need-wide-requires Inv-loop μ-loop
+wide-requires c κs = search needs
+
+mul-wide-3 : tie.Need-mul-wide-3 Inv-loop μ-loop
+mul-wide-3 c = omega arith
+
+add-wide : tie.Need-add-wide Inv-loop μ-loop
+add-wide c = omega arith
+
+mul-wide-4 : tie.Need-mul-wide-4 Inv-loop μ-loop
+mul-wide-4 c = omega arith
+
+shared-slice-read-wide-2 : tie.Need-shared-slice-read-wide-2 Inv-loop μ-loop
+shared-slice-read-wide-2 c = omega arith
+
+wide-requires-2 : tie.Need-wide-requires-2 Inv-loop μ-loop
+wide-requires-2 c κs = search needs
+
+mul-wide-5 : tie.Need-mul-wide-5 Inv-loop μ-loop
+mul-wide-5 c = omega arith
+
+add-wide-2 : tie.Need-add-wide-2 Inv-loop μ-loop
+add-wide-2 c = omega arith
+
+mul-wide-6 : tie.Need-mul-wide-6 Inv-loop μ-loop
+mul-wide-6 c = omega arith
+
+shared-slice-read-wide-3 : tie.Need-shared-slice-read-wide-3 Inv-loop μ-loop
+shared-slice-read-wide-3 c = omega arith
+
+wide-requires-3 : tie.Need-wide-requires-3 Inv-loop μ-loop
+wide-requires-3 c κs = search needs
+
+mul-wide-7 : tie.Need-mul-wide-7 Inv-loop μ-loop
+mul-wide-7 c = omega arith
+
+add-wide-3 : tie.Need-add-wide-3 Inv-loop μ-loop
+add-wide-3 c = omega arith
+
+mul-wide-8 : tie.Need-mul-wide-8 Inv-loop μ-loop
+mul-wide-8 c = omega arith
+
+shared-slice-read-wide-4 : tie.Need-shared-slice-read-wide-4 Inv-loop μ-loop
+shared-slice-read-wide-4 c = omega arith
+
+wide-requires-4 : tie.Need-wide-requires-4 Inv-loop μ-loop
+wide-requires-4 c κs = search needs
+
+pick-requires : tie.Need-pick-requires Inv-loop μ-loop
+pick-requires c κs =
+    let s = c .before .before .before .before .before .before .before .before .before .before .before .before .before in
+    let l = c .before .before .before .before .before .before .before .before .before .before .loop in
+    let few = s .pre .0 in
+    let r = s .pre .3 (l .k) (omega arith) in (
+      room (l .k) _ _ (l .cells) (omega arith) (l .inv .1) (r .left) (c .before .before .before .before .before .before .wide .ensures),
+      room (l .k) _ _ (l .cells) (omega arith) (l .inv .1) (r .right) (c .before .before .before .before .wide2 .ensures),
+      room (l .k) _ _ (l .cells) (omega arith) (l .inv .1) (r .same) (c .before .before .wide3 .ensures),
+      room (l .k) _ _ (l .cells) (omega arith) (l .inv .1) (r .apart) (c .wide4 .ensures),
+    )
+
+mul-lay : tie.Need-mul-lay Inv-loop μ-loop
+mul-lay c = omega arith
+
+lay-requires : tie.Need-lay-requires Inv-loop μ-loop
+lay-requires c κs =
+    let s = c .before .before .before .before .before .before .before .before .before .before .before .before .before .before .before in
+    let l = c .before .before .before .before .before .before .before .before .before .before .before .before .loop in
+    let few = s .pre .0 in
+    let long = l .inv .1 in
+    let room : 16 * l .k + 16 ≤ length (l .cells) = omega arith in
+    (room, c .before .pick .ensures .long)
+
+add-k : tie.Need-add-k Inv-loop μ-loop
+add-k c = omega arith
+
+loop-less : tie.Need-loop-less Inv-loop μ-loop
+loop-less c = omega arith
+
+loop-again : tie.Need-loop-again Inv-loop μ-loop
+loop-again c =
+    let s = c .before .before .before .before .before .before .before .before .before .before .before .before .before .before .before .before .before .before in
+    let l = c .before .before .before .before .before .before .before .before .before .before .before .before .before .before .before .loop in
+    let few = s .pre .0 in
+    let picked = picked-equal (l .cells) (c .before .before .before .before .pick .result) _ _ _ _ _ _ _ _ (c .before .before .before .before .before .before .before .before .before .before .before .wide .ensures) (c .before .before .before .before .before .before .before .before .before .wide2 .ensures) (c .before .before .before .before .before .before .before .wide3 .ensures) (c .before .before .before .before .before .wide4 .ensures) (c .before .before .before .before .pick .ensures) in (
+      omega arith,
+      c .before .before .lay .kept .0 ∙ l .inv .1,
+      solves-more (s .args .branches .now) (l .cells) (c .before .before .before .before .pick .result) (c .before .before .lay .last .0) (l .k) (omega arith) (c .before .before .lay .ensures) (s .args .cells .now) (λ j h. s .pre .3 j (omega arith)) picked (l .inv .2),
+    )
+
+same-length : tie.Need-same-length Inv-loop μ-loop
+same-length c = c .before .loop .inv .1 ∙ sym (c .before .before .before .before .pre .2)
+
+returns : tie.Need-returns Inv-loop μ-loop
+returns c =
+    let s = c .before .before .before .before in
+    let l = c .before .loop in
+    subst (λ m. Solved (s .args .branches .now) (s .args .cells .now) (l .cells) m) (let e : l .k ≡ s .args .nodes = omega arith in e) (l .inv .2)
+
+pub evaluate-spec : {M : Type 1} → statement M
+evaluate-spec =
+    tie.close
+    (tie.spec
+    Inv-loop
+    μ-loop
+    loop-holds
+    mul-wide
+    mul-wide-2
+    shared-slice-read-wide
+    wide-requires
+    mul-wide-3
+    add-wide
+    mul-wide-4
+    shared-slice-read-wide-2
+    wide-requires-2
+    mul-wide-5
+    add-wide-2
+    mul-wide-6
+    shared-slice-read-wide-3
+    wide-requires-3
+    mul-wide-7
+    add-wide-3
+    mul-wide-8
+    shared-slice-read-wide-4
+    wide-requires-4
+    pick-requires
+    mul-lay
+    lay-requires
+    add-k
+    loop-less
+    loop-again
+    same-length
+    returns)
