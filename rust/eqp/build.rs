@@ -5,9 +5,6 @@ use std::path::PathBuf;
 
 fn main() {
     println!("cargo:rerun-if-changed=build.rs");
-    if env::var_os("CARGO_FEATURE_SELF_CHECK").is_some() {
-        return;
-    }
     let manifest = env::var_os("CARGO_MANIFEST_DIR").expect("cargo names the manifest's directory");
     let directory = PathBuf::from(manifest).join("../../target/staticlib");
     let archive = directory.join("libhost.a");
@@ -16,6 +13,6 @@ fn main() {
     println!("cargo:rustc-link-lib=static=host");
     if !archive.exists() {
         println!("cargo:warning={} is not there", archive.display());
-        println!("cargo:warning=`rt staticlib host` makes it; --features self-check does without");
+        println!("cargo:warning=`.ci/archive` makes it");
     }
 }

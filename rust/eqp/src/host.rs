@@ -71,7 +71,6 @@ pub fn encode(answer: &Answer) -> [u8; ANSWER_LEN] {
 }
 
 /// The foreign call.
-#[cfg(not(feature = "self-check"))]
 #[allow(unsafe_code)]
 mod call {
     mod foreign {
@@ -114,27 +113,6 @@ mod call {
                 answer.len(),
             )
         }
-    }
-}
-
-/// The reference in the library's place.
-#[cfg(feature = "self-check")]
-mod call {
-    use crate::{reference, ANSWER_LEN};
-
-    pub fn eqp_decide(
-        budget: u64,
-        problem: &[u8],
-        work: &mut [u8],
-        witness: &mut [u8],
-        answer: &mut [u8],
-    ) -> u32 {
-        if answer.len() < ANSWER_LEN {
-            return 0;
-        }
-        let decided = reference::decide(budget, problem, work, witness);
-        answer[..ANSWER_LEN].copy_from_slice(&super::encode(&decided));
-        1
     }
 }
 

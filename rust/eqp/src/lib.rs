@@ -20,13 +20,11 @@
 //! assert_eq!(p.explain(&witness), "x = 1, y = 2");
 //! ```
 //!
-//! From this directory, once `rt staticlib host` has made `target/staticlib/libhost.a`:
+//! From this directory, once `.ci/archive` has made `target/staticlib/libhost.a`:
 //!
 //! - `cargo test --release` runs the worked rows, the comparison and the night run;
 //! - `cargo run --release --bin bench` times both implementations;
 //! - `cargo run --release --bin make_examples` writes the files of `examples/` anew.
-//!
-//! With `--features self-check` the reference takes the library's place, and nothing is linked.
 
 #![deny(unsafe_code)]
 #![warn(missing_docs)]

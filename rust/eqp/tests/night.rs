@@ -17,7 +17,10 @@ use eqp::{reference, samples};
 /// How many jobs the stream has.
 const JOBS: usize = 10_000;
 /// At how many places it is cut.
-const CUTS: usize = 50;
+const WHOLE_CUTS: usize = 2;
+/// How many parts of it are cut, and how many jobs a part has.
+const CUTS: usize = 60;
+const WINDOW: usize = 80;
 
 /// The lines of document 01.
 const SAMPLE: &str = "EQP NIGHT 1\n\
@@ -50,11 +53,8 @@ fn cut_sample_by_the_reference() {
     }
 }
 
-/// The proved program; `None`, and a word about it, where it has not been made or cannot be run.
+/// The proved program; `None`, and a word about it, where it has not been made.
 fn program() -> Option<PathBuf> {
-    if cfg!(feature = "self-check") {
-        return None;
-    }
     let path = Path::new(env!("CARGO_MANIFEST_DIR")).join("../../target/bin/night");
     if path.exists() {
         return Some(path);
@@ -67,9 +67,23 @@ fn program() -> Option<PathBuf> {
     None
 }
 
+/// Starts the program: it is for x86-64, so elsewhere the words of EQP_EMULATOR go before it.
+fn command(program: &Path) -> Command {
+    let emulator = env::var("EQP_EMULATOR").unwrap_or_default();
+    let mut words = emulator.split_whitespace();
+    match words.next() {
+        Some(first) => {
+            let mut command = Command::new(first);
+            command.args(words).arg(program);
+            command
+        }
+        None => Command::new(program),
+    }
+}
+
 /// What the program prints for an input.
 fn run(program: &Path, input: &[u8]) -> Vec<u8> {
-    let mut child = Command::new(program)
+    let mut child = command(program)
         .stdin(Stdio::piped())
         .stdout(Stdio::piped())
         .spawn()
@@ -148,16 +162,23 @@ fn stream_by_the_program() {
     };
     let mut rng = Rng::new(2);
     let (jobs, ends) = stream(&mut rng);
-    expect_same(&program, jobs.bytes());
+    let whole = jobs.bytes();
+    expect_same(&program, whole);
+    for _ in 0..WHOLE_CUTS {
+        expect_same(&program, &whole[..rng.below(whole.len())]);
+    }
     for cut in 0..CUTS {
-        // Some near the start, some close to the end of a job, the rest anywhere.
-        let length = match cut % 5 {
-            0 => rng.below(2_000),
-            1 => *rng.pick(&ends),
-            2 => rng.pick(&ends).saturating_sub(1),
-            3 => (rng.pick(&ends) + rng.within(1, 10)).min(jobs.bytes().len()),
-            _ => rng.below(jobs.bytes().len()),
+        // From some job on: cut near the start, close to the end of a job, or anywhere.
+        let from = rng.below(JOBS - WINDOW);
+        let ends = &ends[from..=from + WINDOW];
+        let (first, last) = (ends[0], ends[WINDOW]);
+        let end = match cut % 5 {
+            0 => first + rng.below(20),
+            1 => *rng.pick(ends),
+            2 => rng.pick(&ends[1..]) - 1,
+            3 => (rng.pick(ends) + rng.within(1, 10)).min(last),
+            _ => rng.within(first, last),
         };
-        expect_same(&program, &jobs.bytes()[..length]);
+        expect_same(&program, &whole[first..end]);
     }
 }

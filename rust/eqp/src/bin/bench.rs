@@ -69,9 +69,6 @@ impl Side {
 fn main() {
     let mut library = Side::new(host::decide);
     let mut reference = Side::new(reference::decide);
-    if cfg!(feature = "self-check") {
-        println!("self-check: the library's place is taken by the reference");
-    }
     let ratios = bench_tables(&mut library, &mut reference);
     bench_jobs(&mut library, &mut reference);
     let mean = ratios.iter().map(|ratio| ratio.ln()).sum::<f64>() / ratios.len() as f64;
