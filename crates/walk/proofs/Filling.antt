@@ -7,7 +7,7 @@ use mathlib.Core.Logic.{_⊎_, inl, inr}
 use lib.ListN.{length, getD, set, length-set}
 use lib.Seq.{getD-set-same, getD-set-other}
 use Rattle.theorems.proofs.Laws.Tests.{split}
-use Rattle.walk.specs.Cells.{cell, Filled}
+use Rattle.walk.specs.Cells.{cell, Filled, PlacePut}
 
 pub record Filling (ds : List ℕ) (from to least lane : ℕ) (before cells : List ℕ) (v : ℕ) : Type 0 where
   pub filled : Filled ds from v least lane before cells
@@ -61,3 +61,16 @@ module _ (ds : List ℕ) (from to least lane : ℕ) (before : List ℕ) where
           inside = λ w g u. f .filled .inside w g (omega arith);
           outside = λ i no. f .filled .outside i (λ w g u. no w g (f .inside w g u));
         }
+
+-- the variables' digits and then the truth variables' are the place
+pub place-put : (ds : List ℕ) (N count lane : ℕ) (before mid after : List ℕ) → N ≤ count → Filled ds 0 N 1 lane before mid
+    → Filled ds N count 0 lane mid after → PlacePut ds N count lane before after
+place-put ds N count lane before mid after few f g =
+    record {
+      holds =
+          record {
+            variable = λ v h. g .outside (16 * (2634 + v) + lane) (λ w a b q. omega arith) ∙ f .inside v (omega arith) h;
+            truth = λ v a h. g .inside v a h ∙ (let q : getD ds v 0 + 0 ≡ getD ds v 0 = omega arith in q);
+          };
+      outside = λ i other. g .outside i (λ v a b. other v b) ∙ f .outside i (λ v a b. other v (omega arith));
+    }

@@ -52,7 +52,7 @@ module _
     (l : ℕ)
     (low : l < 16)
     (ds : List ℕ)
-    (holds : LaneHolds N P ds cells l)
+    (holds : LaneHolds N (N + P) ds cells l)
     (digits : Digits N P ds) where
   abbrev val : ℕ → ℕ
   val c = cell cells c l
@@ -108,7 +108,8 @@ module _
         where-one (n .a) (val 2633) (val (n .b)) (value k) (λ e. constant .yes l low ∙ w .0 e, w .1)
     takes-value (suc (suc (suc (suc (suc (suc zero)))))) q =
         itself (2634 + (N + n .sym)) (value k)
-        (holds .truth (n .sym) (truth-named table nodes N P tab ds k below val known q) ∙ at-truth table nodes N P tab ds k below val known digits q)
+        ((let h = truth-named table nodes N P tab ds k below val known q in holds .truth (N + n .sym) (omega arith) (omega arith))
+        ∙ at-truth table nodes N P tab ds k below val known digits q)
     takes-value (suc (suc (suc (suc (suc (suc (suc zero))))))) q =
         itself 2633 (value k) (constant .yes l low ∙ at-yes table nodes N P tab ds k below val known q)
     takes-value (suc (suc (suc (suc (suc (suc (suc (suc zero)))))))) q =

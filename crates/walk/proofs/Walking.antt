@@ -10,7 +10,7 @@ use mathlib.Core.Logic.{_⊎_, inl, inr}
 use lib.ListN.{length, getD, take, length-map, length-take, List·getD-map, getD-replicate, length-replicate, replicate}
 use lib.Seq.{getD-take, length-take-le, ext-getD}
 use Rattle.definitions.specs.Logic.{Value, number, values, nodeValue}
-use Rattle.definitions.specs.Places.{digitsAfter, digitsAt, assignment}
+use Rattle.definitions.specs.Places.{next, digitsAfter, digitsAt, assignment}
 use Rattle.definitions.specs.Witness.{byteOf}
 use Rattle.theorems.proofs.Accepted.{length-nodesAt}
 use Rattle.theorems.proofs.Laws.Grown.{length-grown}
@@ -19,7 +19,7 @@ use Rattle.theorems.proofs.Search.Places.{after-within, digits-length}
 use Rattle.theorems.proofs.Search.Verdict.{AllTrue, FirstFalse}
 use Rattle.ranges.specs.Table.{TableIn, tableIn}
 use Rattle.walk.specs.Cells.{cell, Decoded, LanesLaid, Solved, Constant, LaneHolds, FirstLane, LaneCopied}
-use Rattle.walk.specs.Digits.{Digits, ValuesAre, valueIn, Turning, PlacesLaid, digitsOf, sizesIn}
+use Rattle.walk.specs.Digits.{Digits, ValuesAre, valueIn, Turning, NextIs, PlacesLaid, digitsOf, sizesIn}
 use Rattle.walk.specs.Walked.{rootTrue, RootIn, Starts, WalkIs}
 use Rattle.walk.specs.declared.odometer.Odometer.{Odometer}
 use Rattle.walk.specs.declared.odometer.Step.{Step}
@@ -122,7 +122,7 @@ module _
             omega arith;
       }
 
-  module _ (mid : List ℕ) (step : Step) (laid : PlacesLaid now N P cells mid step) (going : tried < limit) where
+  module _ (mid : List ℕ) (last : Odometer) (laid : PlacesLaid now N cells mid last) (going : tried < limit) where
     stands : digitsOf now ≡ digitsAfter (sizesIn now) tried
     stands = w .digits-are going ∙ ap (λ xs. digitsAfter xs tried) (sym sizes-same)
 
@@ -142,12 +142,13 @@ module _
           }
 
       -- each lane holds its place
-      lane-holds : (l : ℕ) → l < 16 → LaneHolds N P (digitsAfter ss (tried + l)) after l
+      lane-holds : (l : ℕ) → l < 16 → LaneHolds N (N + P) (digitsAfter ss (tried + l)) after l
       lane-holds l h =
-          let was = subst (λ xs. LaneHolds N P (digitsAfter xs (tried + l)) mid l) sizes-same (laid .lanes tried stands l h) in
+          let was = subst (λ xs. LaneHolds N (now .count) (digitsAfter xs (tried + l)) mid l) sizes-same (laid .lanes tried stands l h) in
+          let c = w .same-count ∙ w .starts .count-is in
           record {
             variable = λ v b. solved .kept (16 * (2634 + v) + l) (omega arith) ∙ was .variable v b;
-            truth = λ v b. solved .kept (16 * (2634 + (N + v)) + l) (omega arith) ∙ was .truth v b;
+            truth = λ v a b. solved .kept (16 * (2634 + v) + l) (omega arith) ∙ was .truth v a (omega arith);
           }
 
       -- and the values of its place, which is the one after those tried and the lanes before
@@ -215,9 +216,9 @@ module _
             }
 
         -- no false root: so many places more hold, and the odometer goes on
-        pub goes-on : many ≤ lane → (many < 16 → limit ≤ tried + many) → length after ≡ 42784
+        pub goes-on : many ≤ lane → (many < 16 → limit ≤ tried + many) → length after ≡ 42784 → (step : Step) → NextIs last step
             → Walking table nodes N P root o limit bs vals after (step .odometer) (tried + many)
-        goes-on h last l =
+        goes-on h ample l step n =
             let i = found .inside in
             record {
               table-in = w .table-in;
@@ -229,14 +230,18 @@ module _
               cells-long = l;
               constant = constant-after;
               reached = omega arith;
-              turning = laid .turning;
-              same-sizes = laid .same-sizes ∙ w .same-sizes;
-              same-count = laid .same-count ∙ w .same-count;
+              turning = n .turning;
+              same-sizes = n .same-sizes ∙ laid .same-sizes ∙ w .same-sizes;
+              same-count = n .same-count ∙ laid .same-count ∙ w .same-count;
               digits-are =
                   λ more.
-                  laid .onward tried stands
-                  ∙ ap₂ (λ (xs : List ℕ) (m : ℕ). digitsAfter xs (tried + m)) sizes-same
-                  (elim (split many 16) [ inl b ↦ absurd (let z = last b in omega arith) | inr b ↦ omega arith ]);
+                  n .digits-next
+                  ∙ ap₂ next (ap₂ (λ (c : ℕ) (xs : List ℕ). take c xs) (laid .same-count) (laid .same-sizes) ∙ sizes-same)
+                  (laid .onward tried stands ∙ ap (λ xs. digitsAfter xs (tried + 15)) sizes-same)
+                  ∙ ap (digitsAfter ss)
+                  (let sixteen : many ≡ 16 = elim (split many 16) [ inl b ↦ absurd (let z = ample b in omega arith) | inr b ↦ omega arith ] in
+                  let q : suc (tried + 15) ≡ tried + many = omega arith in
+                  q);
               held = λ p a b. held-more p a (omega arith);
             }
 

@@ -94,15 +94,20 @@ pub record Constant (cells : List ℕ) : Type 0 where
   pub no : (l : ℕ) → l < 16 → cell cells 2632 l ≡ 0
   pub yes : (l : ℕ) → l < 16 → cell cells 2633 l ≡ 1
 
--- the values of some digits in a lane
-pub record LaneHolds (N P : ℕ) (ds cells : List ℕ) (l : ℕ) : Type 0 where
+-- the values of so many digits in a lane: first those of the variables
+pub record LaneHolds (N count : ℕ) (ds cells : List ℕ) (l : ℕ) : Type 0 where
   pub variable : (v : ℕ) → v < N → cell cells (2634 + v) l ≡ getD ds v 0 + 1
-  pub truth : (v : ℕ) → v < P → cell cells (2634 + (N + v)) l ≡ getD ds (N + v) 0
+  pub truth : (v : ℕ) → N ≤ v → v < count → cell cells (2634 + v) l ≡ getD ds v 0
 
 -- digits from one up to another laid in a lane, each with as much added
 pub record Filled (ds : List ℕ) (from to least lane : ℕ) (before after : List ℕ) : Type 0 where
   pub inside : (v : ℕ) → from ≤ v → v < to → cell after (2634 + v) lane ≡ getD ds v 0 + least
   pub outside : (i : ℕ) → ((v : ℕ) → from ≤ v → v < to → i ≡ 16 * (2634 + v) + lane → ⊥) → getD after i 0 ≡ getD before i 0
+
+-- a place put to a lane, and nothing else changed
+pub record PlacePut (ds : List ℕ) (N count lane : ℕ) (before after : List ℕ) : Type 0 where
+  pub holds : LaneHolds N count ds after lane
+  pub outside : (i : ℕ) → ((v : ℕ) → v < count → i ≡ 16 * (2634 + v) + lane → ⊥) → getD after i 0 ≡ getD before i 0
 
 -- the first of so many lanes where a node is false, or as many as there are
 pub record FirstLane (cells : List ℕ) (root many r : ℕ) : Type 0 where

@@ -6,7 +6,7 @@ use mathlib.Core.Bool.{Bool, true}
 use lib.ListN.{length, getD, take}
 use Rattle.definitions.specs.Lists.{productOf}
 use Rattle.definitions.specs.Logic.{valueAt, values}
-use Rattle.definitions.specs.Places.{next, first, digitsAfter, assignment}
+use Rattle.definitions.specs.Places.{next, digitsAfter, assignment}
 use Rattle.definitions.specs.Witness.{byteOf}
 use Rattle.theorems.proofs.Search.Places.{Within, Positive}
 use Rattle.ranges.specs.Table.{tableIn}
@@ -52,15 +52,12 @@ pub record NextIs (o : Odometer) (r : Step) : Type 0 where
   pub digits-next : digitsOf (r .odometer) ≡ next (sizesIn o) (digitsOf o)
   pub at-end : r .ended ≡ true → (i : ℕ) → getD (r .odometer .digits) i 0 ≡ 0
 
--- sixteen places from the odometer's on stand in the lanes, and the odometer after them is handed on; ended where the first
--- place comes again among those that follow each
-pub record PlacesLaid (o : Odometer) (N P : ℕ) (before after : List ℕ) (r : Step) : Type 0 where
-  pub turning : Turning (r .odometer)
-  pub same-sizes : r .odometer .sizes ≡ o .sizes
-  pub same-count : r .odometer .count ≡ o .count
+-- sixteen places from the odometer's on stand in the lanes, and the odometer at the last of them is handed on
+pub record PlacesLaid (o : Odometer) (N : ℕ) (before after : List ℕ) (r : Odometer) : Type 0 where
+  pub turning : Turning r
+  pub same-sizes : r .sizes ≡ o .sizes
+  pub same-count : r .count ≡ o .count
   pub kept : (i : ℕ) → i < 42144 → getD after i 0 ≡ getD before i 0
-  pub onward : (t : ℕ) → digitsOf o ≡ digitsAfter (sizesIn o) t → digitsOf (r .odometer) ≡ digitsAfter (sizesIn o) (t + 16)
+  pub onward : (t : ℕ) → digitsOf o ≡ digitsAfter (sizesIn o) t → digitsOf r ≡ digitsAfter (sizesIn o) (t + 15)
   pub lanes : (t : ℕ) → digitsOf o ≡ digitsAfter (sizesIn o) t → (l : ℕ) → l < 16
-      → LaneHolds N P (digitsAfter (sizesIn o) (t + l)) after l
-  pub at-end : r .ended ≡ true → (t : ℕ) → digitsOf o ≡ digitsAfter (sizesIn o) t
-      → (l : ℕ) × (l < 16) × (digitsAfter (sizesIn o) (t + l + 1) ≡ first (sizesIn o))
+      → LaneHolds N (o .count) (digitsAfter (sizesIn o) (t + l)) after l

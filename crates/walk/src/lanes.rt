@@ -47,7 +47,7 @@ fn pick(cells: &[u8], left: usize, right: usize, same: usize, apart: usize) -> [
     lanes
 }
 
-pub fn lay(cells: &mut [u8], at: usize, lanes: [u8; 16])
+pub fn put_lanes(cells: &mut [u8], at: usize, lanes: [u8; 16])
     requires { ⌜ (at + 16 ≤ length (now cells)) × (length lanes ≡ 16) ⌝ }
     ensures { λ r. ⌜ LanesLaid (now (cells .entry)) at lanes (now (cells .exit)) ⌝ }
 {
@@ -72,7 +72,7 @@ pub fn evaluate(branches: &[u16], nodes: usize, cells: &mut [u8])
             wide(branches[4 * k + 2]),
             wide(branches[4 * k + 3]),
         );
-        lay(cells, 16 * k, lanes);
+        put_lanes(cells, 16 * k, lanes);
         k += 1;
     }
 }

@@ -8,7 +8,7 @@ ghost use Rattle.walk.specs.Walked.{RootIn, Starts, WalkIs};
 use crate::branches::decode;
 use crate::lanes::evaluate;
 use crate::lanes::first_false;
-use crate::lanes::lay;
+use crate::lanes::put_lanes;
 use crate::lanes::values_of;
 use crate::odometer::Odometer;
 
@@ -22,7 +22,7 @@ pub struct Walked {
     pub falsified: bool,
 }
 
-// At most limit places of the table are tried. The values of the last place tried are left in values.
+// At most limit places of the table are tried. Where the last is false, its values are left in values.
 pub fn walk(
     table: &[u8],
     nodes: usize,
@@ -39,11 +39,12 @@ pub fn walk(
     let mut branches = [0u16; 10528];
     decode(table, nodes, variables, truths, &mut branches);
     let mut cells = [0u8; 42784];
-    lay(&mut cells, 42128, [1; 16]);
+    put_lanes(&mut cells, 42128, [1; 16]);
     let mut odometer = start;
     let mut tried = 0u64;
     while tried < limit {
-        let step = odometer.next(variables, truths, &mut cells);
+        let last = odometer.lay(variables, &mut cells);
+        let step = last.next();
         odometer = step.odometer;
         evaluate(&branches, nodes, &mut cells);
         let many = lanes_in(limit - tried);

@@ -3,7 +3,7 @@
 ghost use Prim.Native.Nat.{ℕ, _+_, _≤_, _<_};
 ghost use mathlib.Core.Path.{_≡_};
 ghost use lib.ListN.{length, getD};
-ghost use Rattle.walk.specs.Cells.{Filled};
+ghost use Rattle.walk.specs.Cells.{Filled, PlacePut};
 ghost use Rattle.walk.specs.Digits.{Turning, NextIs, PlacesLaid};
 
 pub struct Odometer {
@@ -12,7 +12,7 @@ pub struct Odometer {
     pub count: usize,
 }
 
-// The odometer of the place after the sixteen; ended where the last place is among them.
+// The next digits; ended where there are none and the digits are the first again.
 pub struct Step {
     pub odometer: Odometer,
     pub ended: bool,
@@ -47,25 +47,25 @@ fn fill(cells: &mut [u8], digits: &[u8], from: usize, to: usize, least: u8, lane
     }
 }
 
+// A place goes to a lane.
+fn put_place(cells: &mut [u8], digits: &[u8], variables: usize, count: usize, lane: usize)
+    requires { ⌜ (variables ≤ count) × (count ≤ 40) × (lane < 16) × (length (now digits) ≡ 40) × (length (now cells) ≡ 42784) × ((v : ℕ) → getD (now digits) v 0 + 1 < 256) ⌝ }
+    ensures { λ r. ⌜ PlacePut (now (digits .entry)) variables count lane (now (cells .entry)) (now (cells .exit)) ⌝ }
+{
+    fill(cells, digits, 0, variables, 1, lane);
+    fill(cells, digits, variables, count, 0, lane);
+}
+
 impl Odometer {
-    // Sixteen places from this one on go to the lanes, and the odometer hands on its successor.
-    pub fn next(self, variables: usize, truths: usize, cells: &mut [u8]) -> Step
-        requires { ⌜ Turning self × (self .count ≡ variables + truths) × (length (now cells) ≡ 42784) ⌝ }
-        ensures { λ r. ⌜ PlacesLaid self variables truths (now (cells .entry)) (now (cells .exit)) r ⌝ }
+    // The assignment hands on its successor.
+    pub fn next(self) -> Step
+        requires { ⌜ Turning self ⌝ }
+        ensures { λ r. ⌜ NextIs self r ⌝ }
     {
         let count = self.count;
         let sizes = self.sizes;
         let mut digits = self.digits;
-        let mut ended = false;
-        let mut lane = 0;
-        while lane < 16 {
-            fill(cells, &digits, 0, variables, 1, lane);
-            fill(cells, &digits, variables, count, 0, lane);
-            if advance(&mut digits, &sizes, count) {
-                ended = true;
-            }
-            lane += 1;
-        }
+        let ended = advance(&mut digits, &sizes, count);
         Step {
             odometer: Odometer {
                 digits,
@@ -73,6 +73,28 @@ impl Odometer {
                 count,
             },
             ended,
+        }
+    }
+
+    // This place and the fifteen after it go to the lanes; the odometer stands at the last of them.
+    pub fn lay(self, variables: usize, cells: &mut [u8]) -> Odometer
+        requires { ⌜ Turning self × (variables ≤ self .count) × (length (now cells) ≡ 42784) ⌝ }
+        ensures { λ r. ⌜ PlacesLaid self variables (now (cells .entry)) (now (cells .exit)) r ⌝ }
+    {
+        let count = self.count;
+        let sizes = self.sizes;
+        let mut digits = self.digits;
+        let mut lane = 0;
+        while lane < 15 {
+            put_place(cells, &digits, variables, count, lane);
+            advance(&mut digits, &sizes, count);
+            lane += 1;
+        }
+        put_place(cells, &digits, variables, count, 15);
+        Odometer {
+            digits,
+            sizes,
+            count,
         }
     }
 }

@@ -88,11 +88,11 @@ pick-requires c κs =
       room (l .k) _ _ (l .cells) (omega arith) (l .inv .1) (r .apart) (c .wide4 .ensures),
     )
 
-mul-lay : tie.Need-mul-lay Inv-loop μ-loop
-mul-lay c = omega arith
+mul-put-lanes : tie.Need-mul-put-lanes Inv-loop μ-loop
+mul-put-lanes c = omega arith
 
-lay-requires : tie.Need-lay-requires Inv-loop μ-loop
-lay-requires c κs =
+put-lanes-requires : tie.Need-put-lanes-requires Inv-loop μ-loop
+put-lanes-requires c κs =
     let s = c .before .before .before .before .before .before .before .before .before .before .before .before .before .before .before in
     let l = c .before .before .before .before .before .before .before .before .before .before .before .before .loop in
     let few = s .pre .0 in
@@ -113,8 +113,8 @@ loop-again c =
     let few = s .pre .0 in
     let picked = picked-equal (l .cells) (c .before .before .before .before .pick .result) _ _ _ _ _ _ _ _ (c .before .before .before .before .before .before .before .before .before .before .before .wide .ensures) (c .before .before .before .before .before .before .before .before .before .wide2 .ensures) (c .before .before .before .before .before .before .before .wide3 .ensures) (c .before .before .before .before .before .wide4 .ensures) (c .before .before .before .before .pick .ensures) in (
       omega arith,
-      c .before .before .lay .kept .0 ∙ l .inv .1,
-      solves-more (s .args .branches .now) (l .cells) (c .before .before .before .before .pick .result) (c .before .before .lay .last .0) (l .k) (omega arith) (c .before .before .lay .ensures) (s .args .cells .now) (λ j h. s .pre .3 j (omega arith)) picked (l .inv .2),
+      c .before .before .put-lanes .kept .0 ∙ l .inv .1,
+      solves-more (s .args .branches .now) (l .cells) (c .before .before .before .before .pick .result) (c .before .before .put-lanes .last .0) (l .k) (omega arith) (c .before .before .put-lanes .ensures) (s .args .cells .now) (λ j h. s .pre .3 j (omega arith)) picked (l .inv .2),
     )
 
 same-length : tie.Need-same-length Inv-loop μ-loop
@@ -153,8 +153,8 @@ evaluate-spec =
     shared-slice-read-wide-4
     wide-requires-4
     pick-requires
-    mul-lay
-    lay-requires
+    mul-put-lanes
+    put-lanes-requires
     add-k
     loop-less
     loop-again

@@ -3,8 +3,8 @@
 use native.Mathlib.Omega.{arith}
 use Prim.Native.Nat.{_-_}
 use Rattle.walk.proofs.Laying.{Laying, lays-none, lays-more, lays-all}
-use Rattle.walk.proofs.lanes.lay.Statement.{statement}
-use Rattle.walk.proofs.lanes.lay.Tie as tie
+use Rattle.walk.proofs.lanes.put_lanes.Statement.{statement}
+use Rattle.walk.proofs.lanes.put_lanes.Tie as tie
 
 abbrev Inv-loop : tie.InvT-loop
 Inv-loop cells₀ at lanes l₀ cells l = Laying cells₀ at lanes cells l
@@ -39,8 +39,8 @@ same-length c = c .before .loop .inv .long
 returns : tie.Need-returns Inv-loop μ-loop
 returns c = lays-all _ _ _ _ _ (c .before .loop .inv) (c .loop-test .left)
 
-pub lay-spec : {M : Type 1} → statement M
-lay-spec =
+pub put-lanes-spec : {M : Type 1} → statement M
+put-lanes-spec =
     tie.close
     (tie.spec
     Inv-loop
