@@ -1,5 +1,7 @@
 // The answers of the four public operations. What each answer is, for every input, is said in specs/: there the answers are
 // the paper's numbers and values, and specs/Operations/Readings lists them for each case below.
+ghost use mathlib.Core.Path.{_≡_};
+ghost use Rattle.definitions.specs.Operations.Readings.{refusalRead};
 
 // The thirteen refusals, in the order tried. Two of them have a place.
 pub enum Refusal {
@@ -16,6 +18,48 @@ pub enum Refusal {
     ShortWork,
     ShortWitness,
     BigProduct,
+}
+
+// The refusal's number.
+pub fn number_of(refusal: Refusal) -> u8
+    ensures { λ r. ⌜ r ≡ refusalRead refusal .number ⌝ }
+{
+    match refusal {
+        Refusal::TooShort => 1,
+        Refusal::NotEqp => 2,
+        Refusal::BadVersion => 3,
+        Refusal::BadCounts => 4,
+        Refusal::BadLength => 5,
+        Refusal::BadSymbol(_) => 6,
+        Refusal::BadNode(_) => 7,
+        Refusal::TermAsked => 8,
+        Refusal::ManyFunctions => 9,
+        Refusal::ManyPredicates => 10,
+        Refusal::ShortWork => 11,
+        Refusal::ShortWitness => 12,
+        Refusal::BigProduct => 13,
+    }
+}
+
+// Two refusals have a place; it is 0 for the others.
+pub fn place_of(refusal: Refusal) -> usize
+    ensures { λ r. ⌜ r ≡ refusalRead refusal .place ⌝ }
+{
+    match refusal {
+        Refusal::TooShort => 0,
+        Refusal::NotEqp => 0,
+        Refusal::BadVersion => 0,
+        Refusal::BadCounts => 0,
+        Refusal::BadLength => 0,
+        Refusal::BadSymbol(k) => k,
+        Refusal::BadNode(k) => k,
+        Refusal::TermAsked => 0,
+        Refusal::ManyFunctions => 0,
+        Refusal::ManyPredicates => 0,
+        Refusal::ShortWork => 0,
+        Refusal::ShortWitness => 0,
+        Refusal::BigProduct => 0,
+    }
 }
 
 // What check answers: the counts of distinct function and predicate applications.

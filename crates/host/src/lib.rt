@@ -6,12 +6,13 @@ ghost use lib.ListN.{length, drop};
 ghost use Rattle.definitions.specs.Bytes.{bytesOf};
 ghost use Rattle.definitions.specs.Operations.Host.{answerBytes, thirtyTwo};
 ghost use Rattle.definitions.specs.Operations.Buffers.{over};
-ghost use Rattle.definitions.specs.Operations.Readings.{refusalRead, decisionRead};
+ghost use Rattle.definitions.specs.Operations.Readings.{decisionRead};
 ghost use Rattle.definitions.specs.Operations.Promises.{HostPromise};
 ghost use Rattle.host.specs.Replies.{headBytes, replyBytes};
 use decision::decide;
 use definitions::Decision;
-use definitions::Refusal;
+use definitions::number_of;
+use definitions::place_of;
 
 // The six numbers of the answer.
 struct Reply {
@@ -75,48 +76,6 @@ fn answered(verdict: u8, tried: u64, product: u64, written: usize) -> Reply
         place: 0,
         tried,
         product,
-    }
-}
-
-// The refusal's number.
-fn number_of(refusal: Refusal) -> u8
-    ensures { λ r. ⌜ r ≡ refusalRead refusal .number ⌝ }
-{
-    match refusal {
-        Refusal::TooShort => 1,
-        Refusal::NotEqp => 2,
-        Refusal::BadVersion => 3,
-        Refusal::BadCounts => 4,
-        Refusal::BadLength => 5,
-        Refusal::BadSymbol(_) => 6,
-        Refusal::BadNode(_) => 7,
-        Refusal::TermAsked => 8,
-        Refusal::ManyFunctions => 9,
-        Refusal::ManyPredicates => 10,
-        Refusal::ShortWork => 11,
-        Refusal::ShortWitness => 12,
-        Refusal::BigProduct => 13,
-    }
-}
-
-// Two refusals have a place; it is 0 for the others.
-fn place_of(refusal: Refusal) -> usize
-    ensures { λ r. ⌜ r ≡ refusalRead refusal .place ⌝ }
-{
-    match refusal {
-        Refusal::TooShort => 0,
-        Refusal::NotEqp => 0,
-        Refusal::BadVersion => 0,
-        Refusal::BadCounts => 0,
-        Refusal::BadLength => 0,
-        Refusal::BadSymbol(k) => k,
-        Refusal::BadNode(k) => k,
-        Refusal::TermAsked => 0,
-        Refusal::ManyFunctions => 0,
-        Refusal::ManyPredicates => 0,
-        Refusal::ShortWork => 0,
-        Refusal::ShortWitness => 0,
-        Refusal::BigProduct => 0,
     }
 }
 

@@ -1,7 +1,7 @@
 // Lines on standard output.
-ghost use mathlib.Core.Path.{_≡_};
-ghost use Rattle.definitions.specs.Operations.Readings.{refusalRead};
 use definitions::Refusal;
+use definitions::number_of;
+use definitions::place_of;
 use libc::STDOUT_FILENO;
 
 pub fn text(words: &[u8]) {
@@ -64,46 +64,7 @@ fn one(value: u8, base: Base) {
 
 // A refusal's line ends with its number and its place.
 pub fn refusal(refused: Refusal) {
-    let said = read(refused);
-    labelled(b": refused ", said.number);
-    labelled(b" ", said.place);
+    labelled(b": refused ", number_of(refused) as u64);
+    labelled(b" ", place_of(refused) as u64);
     end();
-}
-
-struct Reading {
-    number: u64,
-    place: u64,
-}
-
-// The paper's number and place of a refusal.
-fn read(refused: Refusal) -> Reading
-    ensures { λ r. ⌜ (r .number ≡ refusalRead refused .number) × (r .place ≡ refusalRead refused .place) ⌝ }
-{
-    match refused {
-        Refusal::TooShort => unplaced(1),
-        Refusal::NotEqp => unplaced(2),
-        Refusal::BadVersion => unplaced(3),
-        Refusal::BadCounts => unplaced(4),
-        Refusal::BadLength => unplaced(5),
-        Refusal::BadSymbol(k) => Reading {
-            number: 6,
-            place: k as u64,
-        },
-        Refusal::BadNode(k) => Reading {
-            number: 7,
-            place: k as u64,
-        },
-        Refusal::TermAsked => unplaced(8),
-        Refusal::ManyFunctions => unplaced(9),
-        Refusal::ManyPredicates => unplaced(10),
-        Refusal::ShortWork => unplaced(11),
-        Refusal::ShortWitness => unplaced(12),
-        Refusal::BigProduct => unplaced(13),
-    }
-}
-
-fn unplaced(number: u64) -> Reading
-    ensures { λ r. ⌜ (r .number ≡ number) × (r .place ≡ 0) ⌝ }
-{
-    Reading { number, place: 0 }
 }

@@ -2,6 +2,8 @@
 //!
 //! Every value here is from the paper or from docs/FORMAT.md, or worked by hand from them.
 
+use std::thread;
+
 use eqp::problem::{Formula, Problem, Term};
 use eqp::samples::{self, row, variables};
 use eqp::{host, reference, workloads, Answer, WITNESS_LEN, WORK_LEN};
@@ -239,6 +241,23 @@ fn largest_table() {
         assert!(table.chunks(8).all(|node| node[0] <= 9), "{name}");
         assert!(rest.iter().all(|&byte| byte == FILL), "{name}");
     }
+}
+
+/// The library's frames are of fixed size, and together under 128 KiB.
+#[test]
+fn small_stack() {
+    let mut problems: Vec<_> = (1..=12).map(|number| row(number).bytes()).collect();
+    problems.extend(workloads::tables().into_iter().map(|table| table.problem));
+    problems.push(workloads::largest().bytes());
+    let decide_all = move || {
+        let (mut work, mut witness) = (vec![0; WORK_LEN], vec![0; WITNESS_LEN]);
+        for problem in &problems {
+            host::decide(1_000, problem, &mut work, &mut witness);
+        }
+    };
+    let thread = thread::Builder::new().stack_size(128 << 10);
+    let thread = thread.spawn(decide_all).expect("the thread starts");
+    thread.join().expect("the thread ends");
 }
 
 /// Only a buffer that is too short is refused, in order, and nothing is written.

@@ -43,6 +43,9 @@ slice-aggregate-put-three-4 c = search needs
 number-of-requires : tie.Need-number-of-requires
 number-of-requires c κs = search needs
 
+cast-put-three : tie.Need-cast-put-three
+cast-put-three c = search needs
+
 place-of-requires : tie.Need-place-of-requires
 place-of-requires c κs = search needs
 
@@ -100,6 +103,7 @@ put-answer-spec =
     enum-known-answer-4
     slice-aggregate-put-three-4
     number-of-requires
+    cast-put-three
     place-of-requires
     put-three-requires-4
     same-length
