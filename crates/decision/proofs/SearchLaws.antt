@@ -21,11 +21,12 @@ use Rattle.theorems.proofs.Laws.Ops.{sortAt}
 use Rattle.theorems.proofs.Laws.Grown.{length-grown}
 use Rattle.theorems.proofs.Ranges.Adequate.{length-below}
 use Rattle.theorems.proofs.Truth.{root-within, root-formula}
+use Rattle.theorems.proofs.Fits.{howMany-le}
 use Rattle.theorems.proofs.Search.Verdict.{AllTrue, FirstFalse, valid-when, falsified-when, stopped-when}
 use Rattle.elimination.specs.declared.laid.Laid.{Laid}
 use Rattle.elimination.proofs.Promising.{nodes-laid, root-laid}
 use Rattle.ranges.specs.Table.{tableIn, TableIn}
-use Rattle.ranges.proofs.TopLaws.{howMany-less, padded-at, take-padded}
+use Rattle.ranges.proofs.TopLaws.{padded-at, take-padded}
 use Rattle.ranges.proofs.Measuring.{table-read, table-stands}
 use Rattle.walk.specs.Digits.{ValuesAre, sizesIn}
 use Rattle.walk.specs.Walked.{rootTrue, RootIn, Ends}
@@ -71,7 +72,7 @@ module _ {s table : List ℕ} {all : Laid} {ts : List ℕ} {functions predicates
       let f = L .functions-are in
       let few = L .accepted .few-functions in
       let e = ap (λ (xs : List ℕ). getD xs v 0) tops-ranked ∙ padded-at ranks N v (omega arith) in
-      let less = howMany-less (joined (tableOf s) N v) v in
+      let less = howMany-le (joined (tableOf s) N v) v in
       (omega arith, omega arith)
 
   pub few-variables : functions ≤ 24

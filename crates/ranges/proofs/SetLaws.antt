@@ -1,13 +1,13 @@
 -- Sets of variables as numbers: which variables are in none, in one alone, in two sets joined. Assumes nothing.
-use mathlib.Core.Path.{_≡_, refl, sym, ap, ap₂, _∙_, subst}
-use Prim.Native.Nat.{ℕ, zero, suc, max, _+_, _*_, _-_, _/_, _%_, _^_, _≤_, _<_}
+use mathlib.Core.Path.{_≡_, refl, sym, ap, _∙_}
+use Prim.Native.Nat.{ℕ, zero, suc, max, _+_, _*_, _-_, _/_, _%_, _^_, _<_}
 use native.Mathlib.Omega.{arith}
-use native.Mathlib.Nat.{zero-div, zero-mod, div-eq-of-lt, mod-lt, mul-add-mod-self-right, mod-eq-of-lt}
-use mathlib.Core.Bool.{Bool, true, false, _||_}
-use mathlib.Core.Logic.{_⊎_, inl, inr}
+use native.Mathlib.Nat.{zero-div, div-eq-of-lt, mod-lt, mul-add-mod-self-right, mod-eq-of-lt}
+use mathlib.Core.Bool.{false, _||_}
+use mathlib.Core.Logic.{inl, inr}
 use lib.Dec.{eqb}
-use lib.Bits.{bitOr, or-step, or-shr, or-lt}
-use lib.Pow.{pow-pos, pow-mono, pow-lt, pow-add, shl-shr}
+use lib.Bits.{bitOr, or-step, or-shr}
+use lib.Pow.{pow-lt, pow-add, shl-shr}
 use borrow.Author.Tests.{eq-eqb, ne-eqb}
 use Rattle.theorems.proofs.Laws.Tests.{split}
 use Rattle.ranges.specs.Sets.{inSet}
@@ -56,9 +56,3 @@ in-one k v =
     high : (d : ℕ) → k ≡ d + v → inSet (2 ^ k) v ≡ eqb k v
     high d e =
         ap (λ n. eqb (n % 2) 1) (ap (λ j. 2 ^ j / 2 ^ v) e ∙ ap (λ n. n / 2 ^ v) (pow-add 2 d v) ∙ shl-shr (2 ^ d) v) ∙ last d e
-
--- a small set has no great member
-pub in-small : (n set v : ℕ) → set < 2 ^ n → n ≤ v → inSet set v ≡ false
-in-small n set v h l =
-    let p = pow-mono l in
-    ap (λ x. eqb (x % 2) 1) (div-eq-of-lt (let q : set < 2 ^ v = omega arith in q))

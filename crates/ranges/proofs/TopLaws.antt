@@ -1,9 +1,9 @@
 -- Counts of a set, ranks in a class, and the list of tops that they fill. Assumes nothing.
 use mathlib.Core.Path.{_≡_, refl, sym, ap, ap₂, _∙_}
-use Prim.Native.Nat.{ℕ, zero, suc, _+_, _-_, _≤_, _<_}
+use Prim.Native.Nat.{ℕ, zero, suc, _+_, _-_, _<_}
 use native.Mathlib.Omega.{arith}
 use native.Mathlib.Numerals.{add-one}
-use mathlib.Core.Bool.{Bool, true, false, cond}
+use mathlib.Core.Bool.{Bool, cond}
 use mathlib.Core.List.{List, [], _∷_, _++_, map}
 use lib.ListN.{length, getD, take, set, replicate, List·getD-append}
 use lib.Seq.{take-at, set-at, append-snoc, ext-getD}
@@ -12,14 +12,6 @@ use Rattle.definitions.specs.Problem.Node.{Node}
 use Rattle.definitions.specs.Ranges.{Variables, howMany, rank, joined, tops, padded}
 use Rattle.ranges.specs.Sets.{inSet, ClassesAre, rankIn}
 use Rattle.theorems.proofs.Ranges.Adequate.{length-below, getD-below}
-
-pub howMany-less : (f : Variables) (n : ℕ) → howMany f n ≤ n
-howMany-less f zero = omega arith
-howMany-less f (suc n) = go (f n) (howMany-less f n)
-  where
-    go : (b : Bool) → howMany f n ≤ n → cond b 1 0 + howMany f n ≤ suc n
-    go true h = omega arith
-    go false h = omega arith
 
 -- one more number to count, in the set or not
 pub howMany-next : (f : Variables) (u : ℕ) (b : Bool) → f u ≡ b → howMany f (u + 1) ≡ cond b 1 0 + howMany f u

@@ -16,11 +16,10 @@ pub fn only(v: usize) -> u32
 }
 
 // The leaves of a variable node are itself, of a term choice those of its second and third operands.
-pub fn leaf_sets(table: &[u8], nodes: usize, variables: usize, truths: usize) -> [u32; 2632]
-    requires { ⌜ TableIn (now table) nodes variables truths ⌝ }
-    ensures { λ r. ⌜ LeavesAre (tableIn (now (table .entry)) nodes) nodes r × (length r ≡ 2632) ⌝ }
+pub fn leaf_sets(table: &[u8], nodes: usize, variables: usize, truths: usize, sets: &mut [u32])
+    requires { ⌜ TableIn (now table) nodes variables truths × (length (now sets) ≡ 2632) ⌝ }
+    ensures { λ r. ⌜ LeavesAre (tableIn (now (table .entry)) nodes) nodes (now (sets .exit)) ⌝ }
 {
-    let mut sets = [0u32; 2632];
     let mut k = 0;
     while k < nodes {
         let at = 8 * k;
@@ -32,9 +31,10 @@ pub fn leaf_sets(table: &[u8], nodes: usize, variables: usize, truths: usize) ->
                 let left = two_at(table, at + 4);
                 let right = two_at(table, at + 6);
                 sets[k] = sets[left] | sets[right];
+            } else {
+                sets[k] = 0;
             }
         }
         k += 1;
     }
-    sets
 }

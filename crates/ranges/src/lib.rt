@@ -71,7 +71,8 @@ pub fn measure(table: &[u8], nodes: usize, variables: usize, truths: usize) -> S
     requires { ⌜ TableIn (now table) nodes variables truths ⌝ }
     ensures { λ r. ⌜ SpansAre (now (table .entry)) nodes variables truths r ⌝ }
 {
-    let sets = leaf_sets(table, nodes, variables, truths);
+    let mut sets = [0u32; 2632];
+    leaf_sets(table, nodes, variables, truths, &mut sets);
     let joined = classes(table, nodes, variables, truths, &sets);
     let tops = tops(joined, variables);
     Spans {

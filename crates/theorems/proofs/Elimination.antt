@@ -4,9 +4,12 @@ pub mod Steps
 pub mod Repeats
 pub mod Extends
 pub mod Grows
+pub mod Lays
+pub mod WellStepped
 pub mod WellLaid
 pub mod Chosen
 pub mod Variables
+pub mod Valued
 pub mod Images
 pub mod OfAssignment
 pub mod OfInterpretation

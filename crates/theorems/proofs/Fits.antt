@@ -157,7 +157,7 @@ module _ (A : Interpretation) (M : ℕ) (small : (v : ℕ) (xs : List ℕ) → A
   pub small-values : (t : List Node) (k : ℕ) → numberAt (values A [] t) k ≤ M
   small-values t k = small-at (values A [] t) k (small-grown t [] tt)
 
-howMany-le : (f : Variables) (n : ℕ) → howMany f n ≤ n
+pub howMany-le : (f : Variables) (n : ℕ) → howMany f n ≤ n
 howMany-le f zero = omega arith
 howMany-le f (suc n) = go (f n) (howMany-le f n)
   where

@@ -1,67 +1,55 @@
 -- Elimination keeps the meaning: where each variable has the value of its application, each image has the value of its node.
--- Assumes nothing.
+-- A new application has it by its choices among the own variables. Assumes nothing.
 use mathlib.Core.Path.{_≡_, refl, sym, ap, ap₂, _∙_, subst}
-use Prim.Native.Nat.{ℕ, zero, suc, _+_, _-_, _≤_, _<_}
+use Prim.Native.Nat.{ℕ, _<_}
 use native.Mathlib.Omega.{arith}
-use mathlib.Core.Bool.{Bool, true, false, not, _&&_, false≢true}
-use mathlib.Core.List.{List, [], _∷_, _++_, map, append-nil, append-assoc}
+use mathlib.Core.Bool.{Bool, true, false}
+use mathlib.Core.List.{List, [], _∷_, map, append-nil}
 use mathlib.Core.Logic.{_⊎_, inl, inr}
-use mathlib.Core.Option.{Option, none, some}
+use mathlib.Core.Option.{none}
 use lib.ListN.{length, getD, take, length-append, List·getD-append, length-map}
-use lib.Seq.{getD-append-seam, take-append-seam, getD-at, length-take-le}
-use native.Mathlib.Nat.{le-of-eq, le-of-lt}
+use lib.Seq.{getD-append-seam}
+use native.Mathlib.Nat.{le-of-lt}
 use lib.Dec.{eqb}
 use borrow.Author.Tests.{eqb-true}
 use Rattle.definitions.specs.Lists.{snoc, keep, keepIf}
-use Rattle.definitions.specs.Problem.Node.{Node, node, noNode}
-use Rattle.definitions.specs.Problem.Ops.{opOf, arity, symbolRight, fits, nodeRight, sortsOf, countOf, fieldsOf, operandsOf, operandSorts, isApp}
+use Rattle.definitions.specs.Problem.Node.{Node, noNode}
+use Rattle.definitions.specs.Problem.Ops.{opOf, arity, symbolRight, fits, sortsOf, countOf, fieldsOf, operandsOf, operandSorts, isApp}
 use Rattle.definitions.specs.Problem.Check.{firstWrong}
-use Rattle.definitions.specs.Logic.{Interpretation, Value, number, truth, numberOf, valueAt, numberAt, opValue, nodeValue, values}
-use Rattle.definitions.specs.Elimination.{
-  App,
-  State,
-  begin,
-  imagesOf,
-  last,
-  choices,
-  sameSymbol,
-  sameOp,
-  applied,
-  laid,
-  addApp,
-  repeat,
-  earliest,
-  appStep,
-  nodeOn,
-  copy,
-  step,
-  steps,
-}
+use Rattle.definitions.specs.Logic.{Interpretation, Value, numberOf, valueAt, numberAt, values}
+use Rattle.definitions.specs.Elimination.{App, State, begin, imagesOf, last, choices, sameSymbol, applied, addApp, earliest, step, steps}
 use Rattle.definitions.specs.Elimination.{nextVar, variableNode}
 use Rattle.theorems.proofs.Elimination.Steps.{step-cases}
-use Rattle.theorems.proofs.Elimination.Extends.{Starts, Ext, steps-ext}
+use Rattle.theorems.proofs.Elimination.Extends.{Ext, steps-ext}
 use Rattle.theorems.proofs.Laws.Tests.{and-left, and-right, split}
-use Rattle.theorems.proofs.Elimination.Chosen.{At, Ats, Laid, kept, stays, fresh, last-snoc, laid-snoc, sameList, pickValue, Kind, KnowsAll, Knows, chosen, choices-laid, join, staysAll}
-use Rattle.theorems.proofs.Tables.Fixed.{fixed, Terms, terms-more, operands-terms, copy-value, right-at, right-below, right-fits}
-use Rattle.theorems.proofs.Laws.Ops.{AllBelow}
-use Rattle.theorems.proofs.Elimination.Repeats.{Found, found, not-found}
+use Rattle.theorems.proofs.Elimination.Chosen.{At, Ats, Laid, kept, stays, fresh, laid-snoc, Kind, KnowsAll, chosen, choices-laid, join, staysAll}
+use Rattle.theorems.proofs.Tables.Fixed.{Terms, terms-more, operands-terms}
+use Rattle.theorems.proofs.Elimination.Repeats.{not-found}
 use Rattle.theorems.proofs.Elimination.Variables.{variableValue, variable-kind, variable-value, no-operands, count-zero, take-many}
+use Rattle.theorems.proofs.Elimination.Valued.{AppOk, ok-more, below-T, right-here, grow, copy-ok, repeat-ok}
+use Rattle.theorems.proofs.Elimination.Valued as valued
 
 module _ (I A : Interpretation) (symbols : List ℕ) (T : List Node) (right : firstWrong symbols [] T ≡ none) where
-  abbrev pub vals : List Value
-  vals = values I symbols T
+  abbrev vals : List Value
+  vals = valued.vals I A symbols T right
 
-  abbrev pub mean : Node → Value
-  mean n = nodeValue I symbols vals n
+  abbrev mean : Node → Value
+  mean = valued.mean I A symbols T right
 
-  abbrev pub given : Node → List ℕ
-  given m = map (numberAt vals) (operandsOf symbols m)
+  abbrev given : Node → List ℕ
+  given = valued.given I A symbols T right
 
-  abbrev pub qs : App → List ℕ
-  qs j = given (j .of)
+  abbrev qs : App → List ℕ
+  qs = valued.qs I A symbols T right
 
-  abbrev pub own : App → Value
-  own j = variableValue A (j .of .op) (j .var)
+  abbrev own : App → Value
+  own = valued.own I A symbols T right
+
+  abbrev AllOk : List Node → List Node → List App → Type 0
+  AllOk = valued.AllOk I A symbols T right
+
+  abbrev Inv : State → List Node → Type 0
+  Inv = valued.Inv I A symbols T right
 
   -- the arguments of an application, as the function-free table has them in the end
   abbrev pub qsW : State → App → List ℕ
@@ -71,19 +59,6 @@ module _ (I A : Interpretation) (symbols : List ℕ) (T : List Node) (right : fi
   SameAll F [] = Unit {0}
   SameAll F (j ∷ js) = (qsW F j ≡ qs j) × SameAll F js
 
-  pub record AppOk (done out : List Node) (app : App) : Type 0 where
-    pub index : ℕ
-    pub within : index < length done
-    pub here : app .of ≡ node done index
-    pub is-app : isApp (opOf (app .of .op)) ≡ true
-    pub zeros : countOf (sortsOf symbols (app .of)) ≡ 0 → (app .of .a ≡ 0) × (app .of .b ≡ 0) × (app .of .c ≡ 0)
-    pub terms : Terms I symbols T right (length done) (operandsOf symbols (app .of))
-    pub variable : At A out (app .own) (own app)
-
-  abbrev pub AllOk : List Node → List Node → List App → Type 0
-  AllOk done out [] = Unit {0}
-  AllOk done out (app ∷ apps) = AppOk done out app × AllOk done out apps
-
   -- the choices among the own variables come to the value of the application
   abbrev pub Accord : State → List App → Type 0
   Accord F [] = Unit {0}
@@ -91,101 +66,7 @@ module _ (I A : Interpretation) (symbols : List ℕ) (T : List Node) (right : fi
       (SameAll F (app ∷ apps) → chosen qs own (qs app) (own app) (keep (sameSymbol (app .of)) apps) ≡ mean (app .of))
       × Accord F apps
 
-  pub record Inv (st : State) (ns : List Node) : Type 0 where
-    pub all : st .done ++ ns ≡ T
-    pub lens : length (st .images) ≡ length (st .done)
-    pub imgs : (k : ℕ) → k < length (st .done) → At A (st .out) (getD (st .images) k 0) (valueAt vals k)
-    pub apps : AllOk (st .done) (st .out) (st .apps)
-
-  ok-more : (done : List Node) (n : Node) (out out′ : List Node) → ((i : ℕ) (v : Value) → At A out i v → At A out′ i v)
-      → (apps : List App) → AllOk done out apps → AllOk (snoc done n) out′ apps
-  ok-more done n out out′ keeps [] ok = tt
-  ok-more done n out out′ keeps (app ∷ apps) ok =
-      let l = length-append done (n ∷ []) in
-      let w = ok .0 .within in (
-        record {
-          index = ok .0 .index;
-          within = omega arith;
-          here = ok .0 .here ∙ sym (List·getD-append done (n ∷ []) noNode (ok .0 .index) w);
-          is-app = ok .0 .is-app;
-          zeros = ok .0 .zeros;
-          terms = terms-more I symbols T right (length done) (length (snoc done n)) (omega arith) (operandsOf symbols (app .of)) (ok .0 .terms);
-          variable = keeps (app .own) (own app) (ok .0 .variable);
-        },
-        ok-more done n out out′ keeps apps (ok .1),
-      )
-
   module _ (st : State) (n : Node) (ns : List Node) (inv : Inv st (n ∷ ns)) where
-    node-here : node T (length (st .done)) ≡ n
-    node-here = ap (λ (t : List Node). node t (length (st .done))) (sym (inv .all)) ∙ getD-append-seam (st .done) n ns noNode
-
-    below-T : length (st .done) < length T
-    below-T = let l = length-append (st .done) (n ∷ ns) in let e = ap length (inv .all) in omega arith
-
-    take-here : take (length (st .done)) T ≡ st .done
-    take-here = ap (take (length (st .done))) (sym (inv .all)) ∙ take-append-seam (st .done) (n ∷ ns)
-
-    right-here : nodeRight symbols (take (length (st .done)) T) n ≡ true
-    right-here =
-        subst (λ (x : Node). nodeRight symbols (take (length (st .done)) T) x ≡ true) node-here
-        (right-at symbols T (length (st .done)) right below-T)
-
-    value-here : valueAt vals (length (st .done)) ≡ mean n
-    value-here = fixed I symbols T right (length (st .done)) below-T ∙ ap mean node-here
-
-    grow : (out′ : List Node) (i : ℕ) (apps′ : List App) → ((j : ℕ) (v : Value) → At A (st .out) j v → At A out′ j v)
-        → At A out′ i (mean n) → AllOk (snoc (st .done) n) out′ apps′
-        → Inv (record { done = snoc (st .done) n; out = out′; images = snoc (st .images) i; apps = apps′ }) ns
-    grow out′ i apps′ keeps a ok =
-        let ld = length-append (st .done) (n ∷ []) in
-        let li = length-append (st .images) (i ∷ []) in
-        let le = inv .lens in
-        record {
-          all = append-assoc (st .done) (n ∷ []) ns ∙ inv .all;
-          lens = omega arith;
-          imgs =
-              λ k h.
-              elim (split k (length (st .done))) [
-                | inl l ↦
-                    subst (λ (x : ℕ). At A out′ x (valueAt vals k)) (sym (List·getD-append (st .images) (i ∷ []) 0 k (omega arith)))
-                    (keeps (getD (st .images) k 0) (valueAt vals k) (inv .imgs k l))
-                | inr l ↦
-                    let q : length (st .done) ≡ k = omega arith in
-                    subst (λ (x : ℕ). At A out′ (getD (snoc (st .images) i) x 0) (valueAt vals x)) q
-                    (subst (λ (x : ℕ). At A out′ x (valueAt vals (length (st .done)))) (sym (getD-at (st .images) i [] 0 (length (st .done)) le))
-                    (subst (λ (v : Value). At A out′ i v) (sym value-here) a))
-              ];
-          apps = ok;
-        }
-
-    copy-ok : isApp (opOf (n .op)) ≡ false → Inv (copy symbols st n) ns
-    copy-ok p =
-        let nd = nodeOn (n .op) (imagesOf symbols (st .images) n) in
-        let e =
-        copy-value (values A [] (st .out)) vals (λ k. getD (st .images) k 0) (length (st .done)) (λ k h. inv .imgs k h .is) A I symbols n
-        (subst (λ (m : ℕ). AllBelow m (operandsOf symbols n)) (length-take-le (length (st .done)) T (le-of-lt below-T))
-        (right-below symbols (take (length (st .done)) T) n right-here)) p
-        in
-        let a = fresh A (st .out) nd (mean n) e in
-        let keeps : (j : ℕ) (v : Value) → At A (st .out) j v → At A (snoc (st .out) nd) j v = λ j v b. kept A (st .out) (nd ∷ []) j v b in
-        grow (snoc (st .out) nd) (last (snoc (st .out) nd)) (st .apps) keeps
-        (subst (λ (x : ℕ). At A (snoc (st .out) nd) x (mean n)) (sym (last-snoc A (st .out) nd)) a)
-        (ok-more (st .done) n (st .out) (snoc (st .out) nd) keeps (st .apps) (inv .apps))
-
-    repeat-ok : (i : ℕ) → earliest n (st .done) (st .images) ≡ some i → Inv (repeat st n i) ns
-    repeat-ok i e =
-        let f = found n (st .done) (st .images) i e in
-        let w = f .within in
-        let b = below-T in
-        let same : node T (f .at) ≡ n =
-        ap (λ (t : List Node). node t (f .at)) (sym (inv .all)) ∙ List·getD-append (st .done) (n ∷ ns) noNode (f .at) w ∙ sym (f .equal)
-        in
-        let v : valueAt vals (f .at) ≡ mean n = fixed I symbols T right (f .at) (omega arith) ∙ ap mean same in
-        let keeps : (j : ℕ) (v : Value) → At A (st .out) j v → At A (st .out) j v = λ j v b. b in
-        grow (st .out) i (st .apps) keeps
-        (subst (λ (x : ℕ). At A (st .out) x (mean n)) (sym (f .image)) (subst (λ (x : Value). At A (st .out) (getD (st .images) (f .at) 0) x) v (inv .imgs (f .at) w)))
-        (ok-more (st .done) n (st .out) (st .out) keeps (st .apps) (inv .apps))
-
     abbrev args : Node → List ℕ
     args m = imagesOf symbols (st .images) m
 
@@ -235,10 +116,10 @@ module _ (I A : Interpretation) (symbols : List ℕ) (T : List Node) (right : fi
       zeros-here : countOf (sortsOf symbols n) ≡ 0 → (n .a ≡ 0) × (n .b ≡ 0) × (n .c ≡ 0)
       zeros-here z =
           no-operands (take (length (st .done)) T) (sortsOf symbols n) n
-          (and-right (symbolRight symbols (opOf (n .op)) (n .sym)) (fits (take (length (st .done)) T) (sortsOf symbols n) (fieldsOf n)) right-here) z
+          (and-right (symbolRight symbols (opOf (n .op)) (n .sym)) (fits (take (length (st .done)) T) (sortsOf symbols n) (fieldsOf n)) (right-here I A symbols T right st n ns inv)) z
 
       -- an earlier application of the symbol has other arguments, so there are some
-      positive : (app : App) → AppOk (st .done) (st .out) app → sameSymbol n app ≡ true → 0 < length (given n)
+      positive : (app : App) → AppOk I A symbols T right (st .done) (st .out) app → sameSymbol n app ≡ true → 0 < length (given n)
       positive app ok e =
           elim (split 0 (length (given n))) [
             | inl h ↦ h
@@ -298,7 +179,7 @@ module _ (I A : Interpretation) (symbols : List ℕ) (T : List Node) (right : fi
       this = record { of = n; var = nextVar st n; own = length (st .out); image = last (applied symbols st n) }
 
       terms-here : Terms I symbols T right (length (st .done)) (operandsOf symbols n)
-      terms-here = operands-terms I symbols T right (length (st .done)) n (le-of-lt below-T) is-app right-here
+      terms-here = operands-terms I symbols T right (length (st .done)) n (le-of-lt (below-T I A symbols T right st n ns inv)) is-app (right-here I A symbols T right st n ns inv)
 
       module _ (m : chosen qs own (given n) (own this) (keep (sameSymbol n) (st .apps)) ≡ mean n) where
         abbrev var : Node
@@ -335,7 +216,7 @@ module _ (I A : Interpretation) (symbols : List ℕ) (T : List Node) (right : fi
             let whole = join A (st .out) (snoc (st .out) var) out′ v₀ (mean n) first chain in
             let keeps : (j : ℕ) (v : Value) → At A (st .out) j v → At A out′ j v = λ j v a. stays A (st .out) out′ (mean n) whole j v a in
             let ld = length-append (st .done) (n ∷ []) in
-            grow out′ (last out′) (this ∷ st .apps) keeps (whole .top) (
+            grow I A symbols T right st n ns inv out′ (last out′) (this ∷ st .apps) keeps (whole .top) (
               record {
                 index = length (st .done);
                 within = omega arith;
@@ -345,13 +226,14 @@ module _ (I A : Interpretation) (symbols : List ℕ) (T : List Node) (right : fi
                 terms = terms-more I symbols T right (length (st .done)) (length (snoc (st .done) n)) (omega arith) (operandsOf symbols n) terms-here;
                 variable = stays A (snoc (st .out) var) out′ (mean n) chain (length (st .out)) v₀ own-at;
               },
-              ok-more (st .done) n (st .out) out′ keeps (st .apps) (inv .apps),
+              ok-more I A symbols T right (st .done) n (st .out) out′ keeps (st .apps) (inv .apps),
             )
 
     -- one step
     pub step-ok : (F : State) → Ext st F → Accord F (step symbols st n .apps) → Inv (step symbols st n) ns
     step-ok F ext =
-        step-cases symbols st n (λ G. Accord F (G .apps) → Inv G ns) (λ p m. copy-ok p) (λ i e m. repeat-ok i e)
+        step-cases symbols st n (λ G. Accord F (G .apps) → Inv G ns) (λ p m. copy-ok I A symbols T right st n ns inv p)
+        (λ i e m. repeat-ok I A symbols T right st n ns inv i e)
         (λ p e m.
         add-ok p e (m .0 (same-operands F ext (operandsOf symbols n) (terms-here p e), same-all F ext (st .apps) (inv .apps))))
 

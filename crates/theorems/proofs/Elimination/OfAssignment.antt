@@ -21,7 +21,8 @@ use Rattle.theorems.proofs.Elimination.Chosen.{chosen, sameList, pickVa
 use Rattle.theorems.proofs.Laws.Ops.{app-op}
 use Rattle.theorems.proofs.Elimination.Steps.{step-cases, steps-keep}
 use Rattle.theorems.proofs.Elimination.Variables.{variableValue, variable-kind, app-kind, as-number, as-truth, same-list, same-list-self}
-use Rattle.theorems.proofs.Elimination.Images.{Accord, SameAll, qs, qsW, own, mean, image-value}
+use Rattle.theorems.proofs.Elimination.Valued.{qs}
+use Rattle.theorems.proofs.Elimination.Images.{Accord, SameAll, image-value}
 
 abbrev pub isSym : ℕ → ℕ → App → Bool
 isSym op f app = eqb (app .of .op) op && eqb (app .of .sym) f

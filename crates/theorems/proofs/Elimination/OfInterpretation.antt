@@ -21,7 +21,8 @@ use Rattle.theorems.proofs.Elimination.Chosen.{chosen, sameList, pickVa
 use Rattle.theorems.proofs.Laws.Ops.{app-op, app-alike}
 use Rattle.theorems.proofs.Elimination.Steps.{step-cases, steps-keep}
 use Rattle.theorems.proofs.Elimination.Variables.{variableValue, variable-kind, app-kind, as-number, as-truth, same-list, same-list-self}
-use Rattle.theorems.proofs.Elimination.Images.{Accord, SameAll, qs, own, mean, vals, image-value}
+use Rattle.theorems.proofs.Elimination.Valued.{qs, own}
+use Rattle.theorems.proofs.Elimination.Images.{Accord, image-value}
 use Rattle.theorems.proofs.Elimination.OfAssignment.{AllApp, steps-apps, keep-append}
 
 -- each application's variable number is the count of the applications of its op before it

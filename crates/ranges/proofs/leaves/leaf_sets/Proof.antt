@@ -1,4 +1,4 @@
--- `leaf_sets` meets its contract. The loop's invariant: the leaves of the nodes before k, and no leaves from k on.
+-- `leaf_sets` meets its contract. The loop's invariant: the leaves of the nodes before k, and what was lent from k on.
 -- Assumes nothing.
 use native.Mathlib.Omega.{arith}
 use mathlib.Core.Path.{_≡_, refl, sym, ap, subst, _∙_}
@@ -9,14 +9,14 @@ use lib.ListN.{getD, set}
 use lib.Bits.{bitOr}
 use Rattle.definitions.specs.Problem.Node.{Node, nodeAt}
 use Rattle.ranges.specs.Table.{TableIn, tableIn}
-use Rattle.ranges.proofs.Filled.{Filled, zeros, filled-none, filled-set, filled-kept}
+use Rattle.ranges.proofs.Filled.{Filled, filled-none, filled-set}
 use Rattle.ranges.proofs.TableLaws.{LeafSet, variable-in, variable-set, choice-in, choice-set, other-set}
 use Rattle.ranges.proofs.leaves.leaf_sets.Statement.{statement}
 use Rattle.ranges.proofs.leaves.leaf_sets.Tie as tie
 
 abbrev Inv-loop : tie.InvT-loop
 Inv-loop table nodes variables truths sets₀ k₀ sets k =
-    (k ≤ nodes) × Filled (LeafSet (tableIn table nodes)) (λ _. 0) 2632 k sets
+    (k ≤ nodes) × Filled (LeafSet (tableIn table nodes)) (λ i. getD sets₀ i 0) 2632 k sets
 
 abbrev μ-loop : tie.MeasureT-loop
 μ-loop table nodes variables truths sets₀ k₀ sets k = nodes - k
@@ -24,7 +24,7 @@ abbrev μ-loop : tie.MeasureT-loop
 -- where the op of node k is read
 module _ (c : tie.After-shared-slice-known2 Inv-loop μ-loop) where
   abbrev start : tie.Start Inv-loop μ-loop
-  start = c .before .before .before .before
+  start = c .before .before .before .before .before
 
   abbrev s : List ℕ
   s = start .args .table .now
@@ -44,6 +44,9 @@ module _ (c : tie.After-shared-slice-known2 Inv-loop μ-loop) where
   abbrev sets : List ℕ
   sets = c .before .before .loop .sets
 
+  abbrev lent : List ℕ
+  lent = start .args .sets .now
+
   abbrev n : Node
   n = nodeAt s (8 * k)
 
@@ -51,10 +54,10 @@ module _ (c : tie.After-shared-slice-known2 Inv-loop μ-loop) where
   t = tableIn s nodes
 
   abbrev Fills : List ℕ → Type 0
-  Fills = Filled (LeafSet t) (λ _. 0) 2632 (k + 1)
+  Fills = Filled (LeafSet t) (λ i. getD lent i 0) 2632 (k + 1)
 
   table : TableIn s nodes N P
-  table = start .pre
+  table = start .pre .0
 
   within : k < nodes
   within = c .before .loop-test .taken
@@ -66,7 +69,7 @@ module _ (c : tie.After-shared-slice-known2 Inv-loop μ-loop) where
   earlier q = let o = choice-in s nodes N P table k within q in (o .2 .0, o .2 .2 .0)
 
   fills : (x : ℕ) → LeafSet t k x → Fills (set sets k x)
-  fills x = filled-set (LeafSet t) (λ _. 0) 2632 sets k (omega arith) (c .before .before .loop .inv .1) x
+  fills x = filled-set (LeafSet t) (λ i. getD lent i 0) 2632 sets k (omega arith) (c .before .before .loop .inv .1) x
 
   at-variable : n .op ≡ 0 → (x : ℕ) → x ≡ 2 ^ n .sym → Fills (set sets k x)
   at-variable q x e = fills x (subst (LeafSet t k) (sym e) (variable-set s nodes N P table k within q))
@@ -80,15 +83,17 @@ module _ (c : tie.After-shared-slice-known2 Inv-loop μ-loop) where
       (subst (λ (b : ℕ). LeafSet t (n .b) (getD sets b 0)) (sym e) (done (n .b) (o .0)))
       (subst (λ (b : ℕ). LeafSet t (n .c) (getD sets b 0)) (sym f) (done (n .c) (o .1))))
 
-  at-other : (n .op ≡ 0 → ⊥) → (n .op ≡ 1 → ⊥) → Fills sets
-  at-other p q =
-      filled-kept (LeafSet t) (λ _. 0) 2632 sets k (omega arith) (c .before .before .loop .inv .1)
-      (other-set s nodes N P table k within p q)
+  at-other : (n .op ≡ 0 → ⊥) → (n .op ≡ 1 → ⊥) → Fills (set sets k 0)
+  at-other p q = fills 0 (other-set s nodes N P table k within p q)
 
 loop-holds : tie.Need-loop-holds Inv-loop μ-loop
 loop-holds c =
-    let a = c .before .args in
-    (omega arith, filled-none (LeafSet (tableIn (a .table .now) (a .nodes))) (λ _. 0) 2632 _ refl (zeros 2632))
+    let s = c .before .before in
+    let a = s .args in
+    let lent = a .sets .now in (
+      omega arith,
+      filled-none (LeafSet (tableIn (a .table .now) (a .nodes))) (λ i. getD lent i 0) 2632 lent (s .pre .1) (λ i. refl),
+    )
 
 mul-at : tie.Need-mul-at Inv-loop μ-loop
 mul-at c = omega arith
@@ -111,8 +116,8 @@ only-requires c κs = omega (arith, low (c .before .before .before) (c .before .
 mul-sets : tie.Need-mul-sets Inv-loop μ-loop
 mul-sets c = omega arith
 
-array-write-sets : tie.Need-array-write-sets Inv-loop μ-loop
-array-write-sets c = omega arith
+slice-write-sets : tie.Need-slice-write-sets Inv-loop μ-loop
+slice-write-sets c = omega arith
 
 add-two-at : tie.Need-add-two-at Inv-loop μ-loop
 add-two-at c = omega arith
@@ -129,20 +134,28 @@ two-at-requires-2 c κs = omega arith
 mul-sets-2 : tie.Need-mul-sets-2 Inv-loop μ-loop
 mul-sets-2 c = omega arith
 
-array-read-sets : tie.Need-array-read-sets Inv-loop μ-loop
-array-read-sets c = omega (arith, earlier (c .before .before .before .before) (c .before .before .if2 .taken))
+slice-read-sets : tie.Need-slice-read-sets Inv-loop μ-loop
+slice-read-sets c =
+    omega (arith, earlier (c .before .before .before .before .before) (c .before .before .before .if2 .taken))
 
 mul-sets-3 : tie.Need-mul-sets-3 Inv-loop μ-loop
 mul-sets-3 c = omega arith
 
-array-read-sets-2 : tie.Need-array-read-sets-2 Inv-loop μ-loop
-array-read-sets-2 c = omega (arith, earlier (c .before .before .before .before) (c .before .before .if2 .taken))
+slice-read-sets-2 : tie.Need-slice-read-sets-2 Inv-loop μ-loop
+slice-read-sets-2 c =
+    omega (arith, earlier (c .before .before .before .before .before .before) (c .before .before .before .before .if2 .taken))
 
 mul-sets-4 : tie.Need-mul-sets-4 Inv-loop μ-loop
 mul-sets-4 c = omega arith
 
-array-write-sets-2 : tie.Need-array-write-sets-2 Inv-loop μ-loop
-array-write-sets-2 c = omega arith
+slice-write-sets-2 : tie.Need-slice-write-sets-2 Inv-loop μ-loop
+slice-write-sets-2 c = omega arith
+
+mul-sets-5 : tie.Need-mul-sets-5 Inv-loop μ-loop
+mul-sets-5 c = omega arith
+
+slice-write-sets-3 : tie.Need-slice-write-sets-3 Inv-loop μ-loop
+slice-write-sets-3 c = omega arith
 
 add-k : tie.Need-add-k Inv-loop μ-loop
 add-k c = omega arith
@@ -159,16 +172,17 @@ loop-again c = (
       (at-variable (c .before) (w .0 .taken) (w .3 .result) (w .3 .ensures ∙ ap (λ (v : ℕ). 2 ^ v) (w .2 .ensures .0))))
       (⊎-elim
       (λ w.
-      subst (Fills (c .before)) (sym (w .4))
+      subst (Fills (c .before)) (sym (w .6))
       (at-choice (c .before) (w .1 .taken) (w .2 .result) (w .3 .result) (w .2 .ensures .0) (w .3 .ensures .0)))
       (λ w. subst (Fills (c .before)) (sym (w .2)) (at-other (c .before) (w .0 .left) (w .1 .left))))
       (c .if1 .came),
 )
 
+same-length : tie.Need-same-length Inv-loop μ-loop
+same-length c = c .before .loop .inv .1 .long ∙ sym (c .before .before .before .before .pre .1)
+
 returns : tie.Need-returns Inv-loop μ-loop
-returns c =
-    let f = c .before .loop .inv .1 in
-    (λ i v h. f .done i (omega arith) v, f .long)
+returns c = λ i v h. c .before .loop .inv .1 .done i (omega arith) v
 
 pub leaf-sets-spec : {M : Type 1} → statement M
 leaf-sets-spec =
@@ -184,18 +198,21 @@ leaf-sets-spec =
     wide-requires
     only-requires
     mul-sets
-    array-write-sets
+    slice-write-sets
     add-two-at
     two-at-requires
     add-two-at-2
     two-at-requires-2
     mul-sets-2
-    array-read-sets
+    slice-read-sets
     mul-sets-3
-    array-read-sets-2
+    slice-read-sets-2
     mul-sets-4
-    array-write-sets-2
+    slice-write-sets-2
+    mul-sets-5
+    slice-write-sets-3
     add-k
     loop-less
     loop-again
+    same-length
     returns)

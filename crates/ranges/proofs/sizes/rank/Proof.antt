@@ -6,7 +6,8 @@ use mathlib.Core.Logic.{⊎-elim}
 use Prim.Native.Nat.{ℕ, suc, _≤_, _-_}
 use Rattle.definitions.specs.Ranges.{howMany}
 use Rattle.ranges.specs.Sets.{inSet}
-use Rattle.ranges.proofs.TopLaws.{howMany-less, howMany-next}
+use Rattle.theorems.proofs.Fits.{howMany-le}
+use Rattle.ranges.proofs.TopLaws.{howMany-next}
 use Rattle.ranges.proofs.sizes.rank.Statement.{statement}
 use Rattle.ranges.proofs.sizes.rank.Tie as tie
 
@@ -25,7 +26,7 @@ has-requires c κs = omega arith
 add-rank : tie.Need-add-rank Inv-loop μ-loop
 add-rank c =
     let f = inSet (c .before .before .before .before .args .component) in
-    omega (arith, howMany-less f (c .before .before .before .loop .u))
+    omega (arith, howMany-le f (c .before .before .before .loop .u))
 
 add-u : tie.Need-add-u Inv-loop μ-loop
 add-u c = omega arith
