@@ -237,17 +237,17 @@ module _ (s : List ℕ) (ok : Accepted s) (l : Laid) (laid : LaidAt s (nodeCount
         (let a = image-in in let g = length-grown (nodeValue (assignmentAt s p) []) (F s ok .out) in omega arith)))
 
     -- the row as the code reads it
-    pub row-read : (symbol ar x y z : ℕ) → symbol ≡ node (nodesOf s) q .sym → ar ≡ arity (symbolsOf s) (node (nodesOf s) q .sym)
+    pub row-read : (symbol ar x y z value : ℕ) → symbol ≡ node (nodesOf s) q .sym → ar ≡ arity (symbolsOf s) (node (nodesOf s) q .sym)
         → x ≡ cond (ltb 0 ar) (getD vals (getD xs 0 0) 0) 0 → y ≡ cond (ltb 1 ar) (getD vals (getD xs 1 0) 0) 0
-        → z ≡ cond (ltb 2 ar) (getD vals (getD xs 2 0) 0) 0 → ValuesOf s p vals
-        → rowOf5 symbol x y z (getD vals (getD (l .images) q 0) 0) ≡ getD (rowsAt s p) i noRow
-    row-read symbol ar x y z es ea ex ey ez are =
-        let value = getD vals (getD (l .images) q 0) 0 in
+        → z ≡ cond (ltb 2 ar) (getD vals (getD xs 2 0) 0) 0 → value ≡ getD vals (getD (l .images) q 0) 0 → ValuesOf s p vals
+        → rowOf5 symbol x y z value ≡ getD (rowsAt s p) i noRow
+    row-read symbol ar x y z value es ea ex ey ez ev are =
         let at : (j : ℕ) → cond (ltb j ar) (getD vals (getD xs j 0) 0) 0 ≡ argument j = λ j. ap (λ m. cond (ltb j m) (getD vals (getD xs j 0) 0) 0) ea in
         ap (λ m. rowOf5 m x y z value) es
         ∙ ap (λ m. rowOf5 (node (nodesOf s) q .sym) m y z value) (ex ∙ at 0)
         ∙ ap (λ m. rowOf5 (node (nodesOf s) q .sym) (argument 0) m z value) (ey ∙ at 1)
         ∙ ap (λ m. rowOf5 (node (nodesOf s) q .sym) (argument 0) (argument 1) m value) (ez ∙ at 2)
+        ∙ ap (λ m. rowOf5 (node (nodesOf s) q .sym) (argument 0) (argument 1) (argument 2) m) ev
         ∙ sym (row-is are)
 
 -- a row put at the start of the tail stands at its place, and the rest is as it was

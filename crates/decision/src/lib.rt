@@ -14,6 +14,7 @@ use definitions::Decision;
 use definitions::Refusal;
 use elimination::laid::Laid;
 use elimination::lay_table;
+use problem::bytes::number;
 use problem::bytes::two_at;
 use ranges::measure;
 use ranges::sizes::Product;
@@ -90,7 +91,7 @@ fn search(
     ensures { λ r. ⌜ SearchIs budget (now (problem .entry)) (now (witness .entry)) r (now (witness .exit)) ⌝ }
 {
     let images = all.images;
-    let root = images[two_at(problem, 6) - 1];
+    let root = number(images[two_at(problem, 6) - 1]);
     let mut values = [0u8; 2632];
     let limit = least(budget, product);
     let walked = walk(

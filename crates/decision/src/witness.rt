@@ -12,6 +12,7 @@ ghost use Rattle.elimination.specs.State.{LaidAt};
 ghost use Rattle.decision.specs.Rows.{rowOf5, headBytes, RowWritten, WitnessWritten};
 use elimination::copies::images_of;
 use elimination::laid::Laid;
+use problem::bytes::number;
 use problem::bytes::two_at;
 use problem::bytes::wide;
 use problem::nodes::arity_of;
@@ -70,14 +71,14 @@ fn write_row(
 {
     let images = all.images;
     let apps = all.apps;
-    let q = apps[i];
+    let q = wide(apps[i]);
     let symbol = problem[node_at(symbols, q) + 1];
     let arity = arity_of(problem, symbols, nodes, wide(symbol));
     let xs = images_of(problem, symbols, nodes, nodes, q, &images);
     let x = argument(values, 0 < arity, xs[0]);
     let y = argument(values, 1 < arity, xs[1]);
     let z = argument(values, 2 < arity, xs[2]);
-    let image = images[q];
+    let image = number(images[q]);
     let value = values[image];
     let at = 6 + 5 * i;
     put_row(&mut witness[at..], symbol, x, y, z, value);

@@ -18,6 +18,7 @@ use crate::conditions::lay_choice;
 use crate::copies::images_of;
 use crate::laid::Laid;
 use crate::put::lay;
+use problem::bytes::number;
 use problem::bytes::wide;
 use problem::nodes::arity_of;
 use problem::nodes::node_at;
@@ -58,10 +59,11 @@ fn lay_choices(
     let mut i = before.count;
     while 0 < i {
         i -= 1;
-        let q = apps[i];
+        let q = wide(apps[i]);
         if same_symbol(problem, symbols, nodes, q, k) {
             let ys = images_of(problem, symbols, nodes, k, q, &images);
-            at = lay_choice(work, at, choice, arity, xs, ys, owns[i]);
+            let own = number(owns[i]);
+            at = lay_choice(work, at, choice, arity, xs, ys, own);
         }
     }
     at

@@ -12,6 +12,7 @@ ghost use Rattle.problem.specs.Shape.{Shaped};
 ghost use Rattle.elimination.specs.State.{stateAt, LaidAt, StepLays, three};
 use crate::laid::Laid;
 use crate::put::lay;
+use problem::bytes::number;
 use problem::bytes::two_at;
 use problem::bytes::wide;
 use problem::nodes::Wanted;
@@ -27,7 +28,7 @@ fn image_at(
     k: usize,
     q: usize,
     j: usize,
-    images: &[usize],
+    images: &[u16],
 ) -> usize
     requires { ⌜ Accepted (now problem) × Shaped (now problem) symbols nodes × (q ≤ k) × (q < nodes) × (k ≤ nodes) × (j < 3) × (length (now images) ≡ 256) × (take k (now images) ≡ stateAt (now problem) k .images) ⌝ }
     ensures { λ r. ⌜ (r ≡ getD (imagesOf (symbolsOf (now (problem .entry))) (stateAt (now (problem .entry)) k .images) (node (nodesOf (now (problem .entry))) q)) j 0) × (r < 2632) ⌝ }
@@ -38,7 +39,7 @@ fn image_at(
         return 0;
     }
     let operand = two_at(problem, at + 2 + 2 * j);
-    images[operand]
+    number(images[operand])
 }
 
 // The images of the operands of node q that are in use, with 0 after them.
@@ -48,7 +49,7 @@ pub fn images_of(
     nodes: usize,
     k: usize,
     q: usize,
-    images: &[usize],
+    images: &[u16],
 ) -> [usize; 3]
     requires { ⌜ Accepted (now problem) × Shaped (now problem) symbols nodes × (q ≤ k) × (q < nodes) × (k ≤ nodes) × (length (now images) ≡ 256) × (take k (now images) ≡ stateAt (now problem) k .images) ⌝ }
     ensures { λ r. ⌜ (r ≡ three (imagesOf (symbolsOf (now (problem .entry))) (stateAt (now (problem .entry)) k .images) (node (nodesOf (now (problem .entry))) q))) × (getD r 0 0 < 2632) × (getD r 1 0 < 2632) × (getD r 2 0 < 2632) ⌝ }

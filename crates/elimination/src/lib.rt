@@ -13,6 +13,7 @@ use definitions::Checked;
 use definitions::Eliminated;
 use definitions::Refusal;
 use problem::bytes::Found;
+use problem::bytes::number;
 use problem::bytes::two_at;
 use problem::bytes::wide;
 use problem::nodes::node_at;
@@ -41,7 +42,7 @@ pub fn eliminate(problem: &[u8], work: &mut [u8]) -> Eliminated
                 let images = all.images;
                 Eliminated::Table {
                     nodes: all.nodes,
-                    root: images[last],
+                    root: number(images[last]),
                 }
             }
         }

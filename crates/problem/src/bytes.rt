@@ -10,8 +10,15 @@ pub enum Found {
     Nothing,
 }
 
+// A byte and a two-byte number as a usize: a read widened by a call asks only for its index, where a cast asks too that it fits.
 pub fn wide(x: u8) -> usize
     ensures { λ r. ⌜ (r ≡ x) × (r < 256) ⌝ }
+{
+    x as usize
+}
+
+pub fn number(x: u16) -> usize
+    ensures { λ r. ⌜ r ≡ x ⌝ }
 {
     x as usize
 }

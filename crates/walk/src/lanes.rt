@@ -4,12 +4,7 @@ ghost use Prim.Native.Nat.{_+_, _≤_, _<_};
 ghost use mathlib.Core.Path.{_≡_};
 ghost use lib.ListN.{length};
 ghost use Rattle.walk.specs.Cells.{chosen, Ordered, Picked, LanesLaid, Solved, FirstLane, LaneCopied};
-
-fn wide(x: u16) -> usize
-    ensures { λ r. ⌜ r ≡ x ⌝ }
-{
-    x as usize
-}
+use problem::bytes::number;
 
 fn equal(x: u8, y: u8) -> u8
     ensures { λ r. ⌜ r ≡ chosen x y 1 0 ⌝ }
@@ -67,10 +62,10 @@ pub fn evaluate(branches: &[u16], nodes: usize, cells: &mut [u8])
     while k < nodes {
         let lanes = pick(
             cells,
-            wide(branches[4 * k]),
-            wide(branches[4 * k + 1]),
-            wide(branches[4 * k + 2]),
-            wide(branches[4 * k + 3]),
+            number(branches[4 * k]),
+            number(branches[4 * k + 1]),
+            number(branches[4 * k + 2]),
+            number(branches[4 * k + 3]),
         );
         put_lanes(cells, 16 * k, lanes);
         k += 1;

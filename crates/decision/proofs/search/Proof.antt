@@ -1,12 +1,10 @@
 -- The search answers the outcome: the walk has tried the places in order, and the witness is that of the last where it is false.
 -- Assumes nothing.
 use borrow.Author.Needs.{needs}
-use native.Mathlib.Omega.{arith}
-use mathlib.Core.Path.{_≡_, refl, sym, ap, _∙_, subst}
-use Prim.Native.Nat.{ℕ, _-_}
+use mathlib.Core.Path.{_≡_, _∙_, subst}
+use Prim.Native.Nat.{ℕ}
 use mathlib.Core.Bool.{Bool, true, false}
-use mathlib.Core.List.{List}
-use lib.ListN.{length, getD, length-replicate}
+use lib.ListN.{length-replicate}
 use Rattle.definitions.specs.Elimination.{rootOf, eliminated}
 use Rattle.walk.specs.Digits.{sizesIn}
 use Rattle.walk.specs.Walked.{rootTrue, Ends}
@@ -19,34 +17,37 @@ use Rattle.decision.proofs.search.Tie as tie
 two-at-requires : tie.Need-two-at-requires
 two-at-requires c κs = search needs
 
-sub-root : tie.Need-sub-root
-sub-root c = search needs
+sub-number : tie.Need-sub-number
+sub-number c = search needs
 
-mul-root : tie.Need-mul-root
-mul-root c = search needs
+mul-number : tie.Need-mul-number
+mul-number c = search needs
 
-array-read-root : tie.Need-array-read-root
-array-read-root c = search needs
+array-read-number : tie.Need-array-read-number
+array-read-number c = search needs
+
+number-requires : tie.Need-number-requires
+number-requires c κs = search needs
 
 least-requires : tie.Need-least-requires
 least-requires c κs = search needs
 
 odometer-requires : tie.Need-odometer-requires
-odometer-requires c κs = let l = c .before .before .before .before .before .before .pre .0 in (tops-long l, few-variables l, few-truths l, tops-low l)
+odometer-requires c κs = let l = c .before .before .before .before .before .before .before .pre .0 in (tops-long l, few-variables l, few-truths l, tops-low l)
 
 slice-aggregate-walk : tie.Need-slice-aggregate-walk
 slice-aggregate-walk c = search needs
 
 -- the root is that of the elimination
-module _ (c : tie.After-two-at) where
+module _ (c : tie.After-number) where
   abbrev start : tie.Start
-  start = c .before .before .before .before .before
+  start = c .before .before .before .before .before .before
 
   abbrev root : ℕ
-  root = getD (start .args .all .images) (c .two-at .result - 1) 0
+  root = c .number .result
 
   root-is : root ≡ rootOf (eliminated (start .args .problem .now))
-  root-is = root-there (start .pre .0) (c .two-at .result) (c .two-at .ensures .0)
+  root-is = c .number .ensures ∙ root-there (start .pre .0) (c .before .two-at .result) (c .before .two-at .ensures .0)
 
 walk-requires : tie.Need-walk-requires
 walk-requires c κs =
@@ -65,7 +66,7 @@ same-length c = search needs
 
 -- the walk has ended
 module _ (c : tie.After-walk) where
-  abbrev read : tie.After-two-at
+  abbrev read : tie.After-number
   read = c .before .before .before .before
 
   abbrev l : Laying (start read .args .problem .now) (start read .args .table .now) (start read .args .all) (start read .args .tops) (start read .args .functions) (start read .args .predicates) (start read .args .product)
@@ -118,9 +119,10 @@ search-spec =
     tie.close
     (tie.spec
     two-at-requires
-    sub-root
-    mul-root
-    array-read-root
+    sub-number
+    mul-number
+    array-read-number
+    number-requires
     least-requires
     odometer-requires
     slice-aggregate-walk

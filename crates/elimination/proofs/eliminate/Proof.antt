@@ -38,14 +38,17 @@ sub-last c = omega (arith, ok (c .before .before) .some-nodes, c .two-at .ensure
 lay-table-requires : tie.Need-lay-table-requires
 lay-table-requires c κs = (ok (c .before .before .before), c .before .before .if1 .left)
 
-mul-t13 : tie.Need-mul-t13
-mul-t13 c = search needs
+mul-number : tie.Need-mul-number
+mul-number c = search needs
 
-array-read-t18 : tie.Need-array-read-t18
-array-read-t18 c =
+array-read-number : tie.Need-array-read-number
+array-read-number c =
     let read = c .before .before .before .before .before in
     let accepted = ok (read .before .before) in
     omega (arith, accepted .few-nodes, accepted .some-nodes, read .two-at .ensures .0)
+
+number-requires : tie.Need-number-requires
+number-requires c κs = search needs
 
 returns : tie.Need-returns
 returns c =
@@ -62,11 +65,11 @@ same-length c = search needs
 
 returns-3 : tie.Need-returns-3
 returns-3 c =
-    let laid = c .before .before .before in
+    let laid = c .before .before .before .before in
     let told = laid .before .before .before .before in
     let none = not-refused (told .before .before .check .ensures) (told .enum-told .given .1) in
     let all = laid .lay-table .ensures in
-    let last = ap (λ n. getD (laid .lay-table .result .images) (n - 1) 0) (laid .before .before .two-at .ensures .0) in
+    let last = c .number .ensures ∙ ap (λ n. getD (laid .lay-table .result .images) (n - 1) 0) (laid .before .before .two-at .ensures .0) in
     let long = laid .before .before .before .if1 .left in
     table-promised _ _ (taken _ _ none long) (nodes-laid _ (ok told) all) (last ∙ root-laid _ (ok told) all)
     (table-laid _ (ok told) all)
@@ -81,8 +84,9 @@ eliminate-spec =
     two-at-requires
     sub-last
     lay-table-requires
-    mul-t13
-    array-read-t18
+    mul-number
+    array-read-number
+    number-requires
     returns
     returns-2
     same-length

@@ -1,13 +1,12 @@
 -- `write_row` writes the row of distinct application i where it belongs. Assumes nothing.
 use borrow.Author.Needs.{needs}
 use native.Mathlib.Omega.{arith}
-use mathlib.Core.Path.{_≡_, refl, sym, ap, _∙_, subst}
+use mathlib.Core.Path.{_≡_, sym, ap, ap₂, _∙_, subst}
 use Prim.Native.Nat.{ℕ, _+_, _*_, _<_, _≤_}
 use mathlib.Core.List.{List, _++_}
 use lib.ListN.{length, getD, take, drop, length-drop}
-use lib.Seq.{drop-drop}
 use Rattle.definitions.specs.Problem.Node.{Node, node}
-use Rattle.definitions.specs.Problem.Check.{symbolsOf, nodesOf}
+use Rattle.definitions.specs.Problem.Check.{nodeCount, symbolsOf, nodesOf}
 use Rattle.problem.proofs.NodeLaws.{node-stands}
 use Rattle.definitions.specs.Problem.Ops.{arity}
 use Rattle.definitions.specs.Elimination.{imagesOf}
@@ -22,51 +21,64 @@ module _ (c : tie.Start) where
   abbrev s : List ℕ
   s = c .args .problem .now
 
-  abbrev q : ℕ
-  q = getD (c .args .all .apps) (c .args .i) 0
-
-  q-node : q < c .args .nodes
-  q-node = let a = c .pre .2 .app-before (c .args .i) (c .pre .3) in let b = c .pre .1 .nodes-are in omega arith
+  -- the application's node, as it is laid
+  abbrev app : ℕ
+  app = getD (c .args .all .apps) (c .args .i) 0
 
   few : c .args .i < 40
   few = rows-room s (c .pre .0) (c .args .all) (c .pre .2) (c .args .i) (c .pre .3)
 
-  image-low : getD (c .args .all .images) q 0 < 2632
+  image-low : getD (c .args .all .images) app 0 < 2632
   image-low = image-fits s (c .pre .0) (c .args .all) (c .pre .2) (c .args .i) (c .pre .3)
 
-mul-q : tie.Need-mul-q
-mul-q c = let f = few (c .before .before .before .before .before) in omega arith
+array-read-wide : tie.Need-array-read-wide
+array-read-wide c = let f = few (c .before .before .before .before .before) in omega arith
 
-array-read-q : tie.Need-array-read-q
-array-read-q c = let f = few (c .before .before .before .before .before) in omega arith
+wide-requires : tie.Need-wide-requires
+wide-requires c κs = search needs
+
+-- and as it is read
+module _ (c : tie.After-wide) where
+  abbrev start : tie.Start
+  start = c .before .before .before .before .before .before
+
+  abbrev q : ℕ
+  q = c .wide .result
+
+  q-is : q ≡ app start
+  q-is = c .wide .ensures .0
+
+  q-node : q < start .args .nodes
+  q-node =
+      let earlier = start .pre .2 .app-before (start .args .i) (start .pre .3) in
+      let nodes-are = start .pre .1 .nodes-are in
+      let is = q-is in
+      omega arith
 
 node-at-requires : tie.Need-node-at-requires
 node-at-requires c κs =
-    let start = c .before .before .before .before .before in
-    let few-symbols = start .pre .1 .few-symbols in
-    let few-nodes = start .pre .1 .few-nodes in
-    let inside = q-node start in
+    let few-symbols = start c .pre .1 .few-symbols in
+    let few-nodes = start c .pre .1 .few-nodes in
+    let inside = q-node c in
     (few-symbols, omega arith)
 
 add-symbol : tie.Need-add-symbol
 add-symbol c =
-    let start = c .before .before .before .before .before .before in
-    let few-symbols = start .pre .1 .few-symbols in
-    let few-nodes = start .pre .1 .few-nodes in
-    let inside = q-node start in
+    let few-symbols = start (c .before) .pre .1 .few-symbols in
+    let few-nodes = start (c .before) .pre .1 .few-nodes in
+    let inside = q-node (c .before) in
     let at = c .node-at .ensures in
     omega arith
 
 shared-slice-read-symbol : tie.Need-shared-slice-read-symbol
 shared-slice-read-symbol c =
-    let start = c .before .before .before .before .before .before .before in
-    let whole = start .pre .1 .whole in
-    let inside = q-node start in
+    let whole = start (c .before .before) .pre .1 .whole in
+    let inside = q-node (c .before .before) in
     let at = c .before .node-at .ensures in
     omega arith
 
-wide-requires : tie.Need-wide-requires
-wide-requires c κs = search needs
+wide-requires-2 : tie.Need-wide-requires-2
+wide-requires-2 c κs = search needs
 
 arity-of-requires : tie.Need-arity-of-requires
 arity-of-requires c κs = search needs
@@ -76,16 +88,17 @@ slice-aggregate-images-of c = search needs
 
 images-of-requires : tie.Need-images-of-requires
 images-of-requires c κs =
-    let start = c .before .before .before .before .before .before .before .before .before .before in
-    let inside = q-node start in
-    let laid = start .pre .2 in (
-      start .pre .0,
-      start .pre .1,
+    let got = c .before .before .before .before .before in
+    let st = start got in
+    let inside = q-node got in
+    let laid = st .pre .2 in (
+      st .pre .0,
+      st .pre .1,
       omega arith,
       inside,
       omega arith,
       laid .images-long,
-      subst (λ k. take k (start .args .all .images) ≡ stateAt (s start) k .images) (sym (start .pre .1 .nodes-are)) (laid .images-are),
+      subst (λ k. take k (st .args .all .images) ≡ stateAt (s st) k .images) (sym (st .pre .1 .nodes-are)) (laid .images-are),
     )
 
 array-read-argument : tie.Need-array-read-argument
@@ -106,45 +119,69 @@ array-read-argument-3 c = search needs
 argument-requires-3 : tie.Need-argument-requires-3
 argument-requires-3 c κs = search needs
 
-mul-image : tie.Need-mul-image
-mul-image c = search needs
+mul-number : tie.Need-mul-number
+mul-number c = search needs
 
-array-read-image : tie.Need-array-read-image
-array-read-image c =
-    let start = c .before .before .before .before .before .before .before .before .before .before .before .before .before .before in
-    let few-nodes = start .pre .1 .few-nodes in
-    let inside = q-node start in
+array-read-number : tie.Need-array-read-number
+array-read-number c =
+    let got = c .before .before .before .before .before .before .before .before .before in
+    let few-nodes = start got .pre .1 .few-nodes in
+    let inside = q-node got in
     omega arith
+
+number-requires : tie.Need-number-requires
+number-requires c κs = search needs
+
+-- the image read is that of the application
+module _ (c : tie.After-number) where
+  abbrev got : tie.After-wide
+  got = c .before .before .before .before .before .before .before .before .before .before
+
+  abbrev images : List ℕ
+  images = start got .args .all .images
+
+  image-is : c .number .result ≡ getD images (app (start got)) 0
+  image-is = c .number .ensures ∙ ap (λ n. getD images n 0) (q-is got)
 
 shared-slice-read-value : tie.Need-shared-slice-read-value
 shared-slice-read-value c =
-    let start = c .before .before .before .before .before .before .before .before .before .before .before .before .before .before .before in
-    let low = image-low start in
-    let long = start .pre .4 in
+    let read = c .before in
+    let st = start (got read) in
+    let low = image-low st in
+    let is = image-is read in
+    let long = st .pre .4 in
     omega arith
 
+-- where the row goes
+module _ (c : tie.After-shared-slice-known4) where
+  abbrev first : tie.Start
+  first = start (got (c .before))
+
+  row-room : 6 + 5 * first .args .i + 5 ≤ 206
+  row-room = let f = few first in omega arith
+
 mul-at : tie.Need-mul-at
-mul-at c = let f = few (c .before .before .before .before .before .before .before .before .before .before .before .before .before .before .before) in let room = c .before .before .before .before .before .before .before .before .before .before .before .before .before .before .before .pre .5 in omega arith
+mul-at c = let f = row-room c in omega arith
 
 add-at : tie.Need-add-at
-add-at c = let f = few (c .before .before .before .before .before .before .before .before .before .before .before .before .before .before .before) in let room = c .before .before .before .before .before .before .before .before .before .before .before .before .before .before .before .pre .5 in omega arith
+add-at c = let f = row-room c in omega arith
 
 sub-put-row : tie.Need-sub-put-row
-sub-put-row c = let f = few (c .before .before .before .before .before .before .before .before .before .before .before .before .before .before .before) in let room = c .before .before .before .before .before .before .before .before .before .before .before .before .before .before .before .pre .5 in omega arith
+sub-put-row c = let f = row-room c in let room = first c .pre .5 in omega arith
 
 part-put-row-start : tie.Need-part-put-row-start
-part-put-row-start c = let f = few (c .before .before .before .before .before .before .before .before .before .before .before .before .before .before .before) in let room = c .before .before .before .before .before .before .before .before .before .before .before .before .before .before .before .pre .5 in omega arith
+part-put-row-start c = let f = row-room c in let room = first c .pre .5 in omega arith
 
 part-put-row-end : tie.Need-part-put-row-end
 part-put-row-end c = search needs
 
 put-row-requires : tie.Need-put-row-requires
 put-row-requires c κs =
-    let start = c .before .before .before .before .before .before .before .before .before .before .before .before .before .before .before .before in
-    let f = few start in
-    let room = start .pre .5 in
-    let at = 6 + 5 * start .args .i in
-    let old = start .args .witness .now in
+    let st = first (c .before) in
+    let f = row-room (c .before) in
+    let room = st .pre .5 in
+    let at = 6 + 5 * st .args .i in
+    let old = st .args .witness .now in
     omega (arith, ap length (tail-whole old at (omega arith)), length-drop at old)
 
 same-length : tie.Need-same-length
@@ -152,50 +189,62 @@ same-length c = search needs
 
 -- the symbol and the arity that were read are those of the application's node
 module _ (c : tie.After-arity-of) where
-  abbrev start : tie.Start
-  start = c .before .before .before .before .before .before .before .before .before
+  abbrev looked : tie.After-wide
+  looked = c .before .before .before .before
 
-  symbol-read : node (nodesOf (s start)) (q start) .sym ≡ c .before .wide .result
+  symbol-read : node (nodesOf (s (start looked))) (app (start looked)) .sym ≡ c .before .wide2 .result
   symbol-read =
-      ap (λ (n : Node). n .sym) (node-stands (start .pre .1) (q start) _ (c .before .before .before .node-at .ensures) (q-node start))
-      ∙ sym (c .before .wide .ensures .0)
+      ap (λ k. node (nodesOf (s (start looked))) k .sym) (sym (q-is looked))
+      ∙ ap (λ (n : Node). n .sym) (node-stands (start looked .pre .1) (q looked) _ (c .before .before .before .node-at .ensures) (q-node looked))
+      ∙ sym (c .before .wide2 .ensures .0)
+
+-- the images of its operands
+operands-read : (c : tie.After-images-of) → let st = start (c .before .before .before .before .before .before) in
+    c .images-of .result ≡ three (imagesOf (symbolsOf (s st)) (stateAt (s st) (nodeCount (s st)) .images) (node (nodesOf (s st)) (app st)))
+operands-read c =
+    let looked = c .before .before .before .before .before .before in
+    let st = start looked in
+    c .images-of .ensures .0
+    ∙ ap₂ (λ (k n : ℕ). three (imagesOf (symbolsOf (s st)) (stateAt (s st) k .images) (node (nodesOf (s st)) n))) (st .pre .1 .nodes-are) (q-is looked)
 
 returns : tie.Need-returns
 returns c = λ p are.
-    let start = c .before .before .before .before .before .before .before .before .before .before .before .before .before .before .before .before .before .before .before in
-    let read = c .before .before .before .before .before .before .before .before .before .before in
-    let xs = c .before .before .before .before .before .before .before .before .images-of in
-    let f = few start in
-    let room = start .pre .5 in
-    let old = start .args .witness .now in
-    let i = start .args .i in
-    let nodes-are = start .pre .1 .nodes-are in
+    let numbered = c .before .before .before .before .before in
+    let st = start (got numbered) in
+    let given = numbered .before .before .before .before in
+    let read = given .before .before in
+    let f = few st in
+    let room = st .pre .5 in
+    let old = st .args .witness .now in
+    let i = st .args .i in
+    let values = st .args .values .now in
     row-placed old _ (c .before .before .put-row .last .0) (6 + 5 * i) (omega arith) (c .before .before .put-row .ensures)
     ∙ ap (λ (r : Row). take (6 + 5 * i) old ++ rowBytes r ++ drop (6 + 5 * i + 5) old)
-    (row-read (s start) (start .pre .0) (start .args .all) (start .pre .2) i (start .pre .3) p (start .args .values .now) (xs .result)
-    (xs .ensures .0 ∙ ap (λ k. three (imagesOf (symbolsOf (s start)) (stateAt (s start) k .images) (node (nodesOf (s start)) (q start)))) nodes-are)
+    (row-read (s st) (st .pre .0) (st .args .all) (st .pre .2) i (st .pre .3) p values (given .images-of .result) (operands-read given)
     _
     (read .arity-of .result)
-    (c .before .before .before .before .before .before .before .argument .result)
-    (c .before .before .before .before .before .before .argument2 .result)
-    (c .before .before .before .before .before .argument3 .result)
-    (sym (read .before .wide .ensures .0) ∙ sym (symbol-read read))
-    (read .arity-of .ensures .0 ∙ ap (arity (symbolsOf (s start))) (sym (symbol-read read)))
-    (c .before .before .before .before .before .before .before .argument .ensures)
-    (c .before .before .before .before .before .before .argument2 .ensures)
-    (c .before .before .before .before .before .argument3 .ensures)
+    (numbered .before .before .before .argument .result)
+    (numbered .before .before .argument2 .result)
+    (numbered .before .argument3 .result)
+    (getD values (numbered .number .result) 0)
+    (sym (read .before .wide2 .ensures .0) ∙ sym (symbol-read read))
+    (read .arity-of .ensures .0 ∙ ap (arity (symbolsOf (s st))) (sym (symbol-read read)))
+    (numbered .before .before .before .argument .ensures)
+    (numbered .before .before .argument2 .ensures)
+    (numbered .before .argument3 .ensures)
+    (ap (λ image. getD values image 0) (image-is numbered))
     are)
 
 pub write-row-spec : {M : Type 1} → statement M
 write-row-spec =
     tie.close
     (tie.spec
-    mul-q
-    array-read-q
+    array-read-wide
+    wide-requires
     node-at-requires
     add-symbol
     shared-slice-read-symbol
-    wide-requires
+    wide-requires-2
     arity-of-requires
     slice-aggregate-images-of
     images-of-requires
@@ -205,8 +254,9 @@ write-row-spec =
     argument-requires-2
     array-read-argument-3
     argument-requires-3
-    mul-image
-    array-read-image
+    mul-number
+    array-read-number
+    number-requires
     shared-slice-read-value
     mul-at
     add-at

@@ -14,6 +14,7 @@ use Rattle.theorems.proofs.Elimination.Steps.{ofOp}
 use Rattle.problem.proofs.NodeLaws.{node-stands}
 use Rattle.elimination.specs.State.{stateAt, LaidAt, imageSet}
 use Rattle.elimination.specs.declared.laid.Laid.{Laid}
+use Rattle.elimination.proofs.Prefix.{state-short}
 use Rattle.elimination.proofs.Counting.{count-small, place-left, function-added, predicate-added}
 use borrow.Author.Needs.{needs}
 use Rattle.elimination.proofs.applications.add_application.Statement.{statement}
@@ -41,6 +42,13 @@ module _ (c : tie.Start) where
 
   has-place : c .args .before .count < 40
   has-place = omega (arith, c .pre .4 .count-is, place-left bytes (c .pre .0) k within (c .pre .5) (c .pre .6))
+
+  -- its table and the next are no longer than a node's number can be
+  own-fits : c .args .before .nodes < 65536
+  own-fits = omega (arith, c .pre .4 .nodes-are, state-short bytes (c .pre .0) k (omega (arith, within)))
+
+  next-fits : length (stateAt bytes (k + 1) .out) < 65536
+  next-fits = omega (arith, state-short bytes (c .pre .0) (k + 1) (omega (arith, within)))
 
   few : (op : ℕ) → length (ofOp op (stateAt bytes k .apps)) ≤ 40
   few op = count-small bytes (c .pre .0) k within op
@@ -74,13 +82,18 @@ add-applied c =
     omega (arith, st .pre .4 .functions-are, few st 0)
 
 applied-requires : tie.Need-applied-requires
-applied-requires c κs = has-place (c .before .before .before .before .before .before .before .before .before)
+applied-requires c κs =
+    let st = c .before .before .before .before .before .before .before .before .before in
+    (has-place st, omega (arith, st .pre .1 .few-nodes), own-fits st)
 
 sub-imaged : tie.Need-sub-imaged
 sub-imaged c = search needs
 
 imaged-requires : tie.Need-imaged-requires
-imaged-requires c κs = search needs
+imaged-requires c κs =
+    let made = c .before .before .before in
+    let st = made .before .before .before .before .before .before .before in
+    omega (arith, st .pre .1 .few-nodes, next-fits st, made .lay-application .ensures .1)
 
 same-length : tie.Need-same-length
 same-length c = search needs
@@ -108,13 +121,18 @@ add-applied-2 c =
     omega (arith, st .pre .4 .predicates-are, few st 6)
 
 applied-requires-2 : tie.Need-applied-requires-2
-applied-requires-2 c κs = has-place (c .before .before .before .before .before .before .before .before .before)
+applied-requires-2 c κs =
+    let st = c .before .before .before .before .before .before .before .before .before in
+    (has-place st, omega (arith, st .pre .1 .few-nodes), own-fits st)
 
 sub-imaged-2 : tie.Need-sub-imaged-2
 sub-imaged-2 c = search needs
 
 imaged-requires-2 : tie.Need-imaged-requires-2
-imaged-requires-2 c κs = search needs
+imaged-requires-2 c κs =
+    let made = c .before .before .before in
+    let st = made .before .before .before .before .before .before .before in
+    omega (arith, st .pre .1 .few-nodes, next-fits st, made .lay-application2 .ensures .1)
 
 same-length-2 : tie.Need-same-length-2
 same-length-2 c = search needs

@@ -7,7 +7,7 @@ use native.Mathlib.Omega.{arith}
 use mathlib.Core.Bool.{true}
 use mathlib.Core.List.{List}
 use mathlib.Core.Logic.{⊎-elim}
-use lib.ListN.{length, getD, take}
+use lib.ListN.{length, take}
 use Rattle.definitions.specs.Lists.{keep}
 use Rattle.definitions.specs.Problem.Node.{Node, node, nodeAt}
 use Rattle.definitions.specs.Problem.Ops.{opOf, isApp, arity}
@@ -102,7 +102,7 @@ loop-holds c =
 sub-i : tie.Need-sub-i Inv-loop μ-loop
 sub-i c = search needs
 
--- in a turn: the application looked at, and its node
+-- in a turn: the application looked at
 module _ (c : tie.In-loop Inv-loop μ-loop) where
   abbrev read : tie.After-images-of Inv-loop μ-loop
   read = c .before .before .before .before .before
@@ -116,9 +116,6 @@ module _ (c : tie.In-loop Inv-loop μ-loop) where
   abbrev app : App
   app = appAt (bytes read) (k read) i
 
-  abbrev q : ℕ
-  q = getD (start .args .before .apps) i 0
-
   i-few : i < start .args .before .count
   i-few = omega (arith, c .before .loop .inv .few, start .pre .4 .count-is, c .loop-test .taken)
 
@@ -127,103 +124,125 @@ module _ (c : tie.In-loop Inv-loop μ-loop) where
       let few = apps-few (bytes read) (start .pre .0) (k read) (omega (arith, within read)) in
       omega (arith, i-few, start .pre .4 .count-is)
 
-  q-before : q < k read
-  q-before = start .pre .4 .app-before i i-few
+array-read-wide : tie.Need-array-read-wide Inv-loop μ-loop
+array-read-wide c = i-small c
 
-  q-is : node (nodesOf (bytes read)) q ≡ app .of
-  q-is = start .pre .4 .app-of i i-few
+wide-requires-2 : tie.Need-wide-requires-2 Inv-loop μ-loop
+wide-requires-2 c κs = search needs
 
-  tested : oneSymbol (node (nodesOf (bytes read)) q) (theNode read) ≡ sameSymbol (theNode read) app
-  tested = ap (λ (m : Node). oneSymbol m (theNode read)) q-is
+-- and its node
+module _ (c : tie.After-wide2 Inv-loop μ-loop) where
+  abbrev turn : tie.In-loop Inv-loop μ-loop
+  turn = c .before
 
-mul-q : tie.Need-mul-q Inv-loop μ-loop
-mul-q c = omega (arith, i-small c)
+  abbrev q : ℕ
+  q = c .wide2 .result
 
-array-read-q : tie.Need-array-read-q Inv-loop μ-loop
-array-read-q c = i-small c
+  q-before : q < k (read turn)
+  q-before = subst (λ m. m < k (read turn)) (sym (c .wide2 .ensures .0)) (start turn .pre .4 .app-before (i turn) (i-few turn))
+
+  q-is : node (nodesOf (bytes (read turn))) q ≡ app turn .of
+  q-is = ap (node (nodesOf (bytes (read turn)))) (c .wide2 .ensures .0) ∙ start turn .pre .4 .app-of (i turn) (i-few turn)
+
+  tested : oneSymbol (node (nodesOf (bytes (read turn))) q) (theNode (read turn)) ≡ sameSymbol (theNode (read turn)) (app turn)
+  tested = ap (λ (m : Node). oneSymbol m (theNode (read turn))) q-is
 
 same-symbol-requires : tie.Need-same-symbol-requires Inv-loop μ-loop
-same-symbol-requires c κs = (start c .pre .1, omega (arith, q-before c, start c .pre .2), start c .pre .2)
+same-symbol-requires c κs =
+    let p = start (turn c) .pre in
+    (p .1, omega (arith, q-before c, p .2), p .2)
 
 slice-aggregate-images-of-2 : tie.Need-slice-aggregate-images-of-2 Inv-loop μ-loop
 slice-aggregate-images-of-2 c = search needs
 
 images-of-requires-2 : tie.Need-images-of-requires-2 Inv-loop μ-loop
 images-of-requires-2 c κs =
-    let t = c .before .before .before in
-    let p = start t .pre in
-    (p .0, p .1, omega (arith, q-before t), omega (arith, q-before t, p .2), omega (arith, p .2), p .4 .images-long, p .4 .images-are)
+    let looked = c .before .before .before in
+    let p = start (turn looked) .pre in
+    let earlier = q-before looked in
+    (p .0, p .1, omega arith, omega (arith, p .2), omega (arith, p .2), p .4 .images-long, p .4 .images-are)
 
 -- the application is of the symbol, and the arguments of both are at hand
 module _ (c : tie.After-images-of2 Inv-loop μ-loop) where
-  abbrev turn : tie.In-loop Inv-loop μ-loop
-  turn = c .before .before .before .before
+  abbrev looked : tie.After-wide2 Inv-loop μ-loop
+  looked = c .before .before .before .before
+
+  abbrev seen : tie.After-images-of Inv-loop μ-loop
+  seen = read (turn looked)
 
   abbrev ar : ℕ
-  ar = read turn .before .before .arity-of .result
+  ar = seen .before .before .arity-of .result
 
   abbrev other : Node
-  other = node (nodesOf (bytes (read turn))) (q turn)
+  other = node (nodesOf (bytes seen)) (q looked)
 
-  one-symbol : oneSymbol other (theNode (read turn)) ≡ true
+  one-symbol : oneSymbol other (theNode seen) ≡ true
   one-symbol = sym (c .before .before .before .same-symbol .ensures) ∙ c .before .before .if2 .taken
 
-  same : sameSymbol (theNode (read turn)) (app turn) ≡ true
-  same = sym (tested turn) ∙ one-symbol
+  same : sameSymbol (theNode seen) (app (turn looked)) ≡ true
+  same = sym (tested looked) ∙ one-symbol
 
-  same-op : other .op ≡ theNode (read turn) .op
-  same-op = op-same other (theNode (read turn)) one-symbol
+  same-op : other .op ≡ theNode seen .op
+  same-op = op-same other (theNode seen) one-symbol
 
-  same-symbol : other .sym ≡ theNode (read turn) .sym
-  same-symbol = symbol-same other (theNode (read turn)) one-symbol
+  same-symbol : other .sym ≡ theNode seen .sym
+  same-symbol = symbol-same other (theNode seen) one-symbol
 
   ar-positive : 1 ≤ ar
   ar-positive =
-      let p = start turn .pre in
-      let given = arguments-given (bytes (read turn)) (p .0) (k (read turn)) (within (read turn)) (q turn) (q-before turn) in
-      omega (arith, arity-read (read turn), given (p .5) same-op same-symbol (p .6))
+      let p = entry seen .pre in
+      let given = arguments-given (bytes seen) (p .0) (k seen) (within seen) (q looked) (q-before looked) in
+      omega (arith, arity-read seen, given (p .5) same-op same-symbol (p .6))
 
   ar-few : ar ≤ 3
   ar-few =
-      let p = start turn .pre in
-      few-arguments (bytes (read turn)) (p .0) (k (read turn)) (within (read turn)) (p .5) ar (arity-read (read turn))
+      let p = entry seen .pre in
+      few-arguments (bytes seen) (p .0) (k seen) (within seen) (p .5) ar (arity-read seen)
 
-  xs-whole : take ar (read turn .images-of .result) ≡ args (bytes (read turn)) (k (read turn)) (theNode (read turn))
+  xs-whole : take ar (seen .images-of .result) ≡ args (bytes seen) (k seen) (theNode seen)
   xs-whole =
-      let p = start turn .pre in
-      arguments-read (bytes (read turn)) (p .0) (k (read turn)) (within (read turn)) (p .5) ar (arity-read (read turn))
-      (k (read turn)) _ (read turn .images-of .ensures .0)
+      let p = entry seen .pre in
+      arguments-read (bytes seen) (p .0) (k seen) (within seen) (p .5) ar (arity-read seen)
+      (k seen) _ (seen .images-of .ensures .0)
 
-  ys-whole : take ar (c .images-of2 .result) ≡ args (bytes (read turn)) (k (read turn)) (app turn .of)
+  ys-whole : take ar (c .images-of2 .result) ≡ args (bytes seen) (k seen) (app (turn looked) .of)
   ys-whole =
-      let p = start turn .pre in
+      let p = entry seen .pre in
       let is-app = ap (λ op. isApp (opOf op)) same-op ∙ p .5 in
-      let its = arity-read (read turn) ∙ ap (arity (symbolsOf (bytes (read turn)))) (sym same-symbol) in
-      arguments-read (bytes (read turn)) (p .0) (q turn) (omega (arith, q-before turn, within (read turn))) is-app ar its
-      (k (read turn)) _ (c .images-of2 .ensures .0)
-      ∙ ap (args (bytes (read turn)) (k (read turn))) (q-is turn)
+      let its = arity-read seen ∙ ap (arity (symbolsOf (bytes seen))) (sym same-symbol) in
+      arguments-read (bytes seen) (p .0) (q looked) (omega (arith, q-before looked, within seen)) is-app ar its
+      (k seen) _ (c .images-of2 .ensures .0)
+      ∙ ap (args (bytes seen) (k seen)) (q-is looked)
 
-mul-lay-choice : tie.Need-mul-lay-choice Inv-loop μ-loop
-mul-lay-choice c = omega (arith, i-small (turn (c .before)))
+mul-number : tie.Need-mul-number Inv-loop μ-loop
+mul-number c = omega (arith, i-small (turn (looked c)))
 
-array-read-lay-choice : tie.Need-array-read-lay-choice Inv-loop μ-loop
-array-read-lay-choice c = i-small (turn (c .before))
+array-read-number : tie.Need-array-read-number Inv-loop μ-loop
+array-read-number c = omega (arith, i-small (turn (looked c)))
+
+number-requires : tie.Need-number-requires Inv-loop μ-loop
+number-requires c κs = search needs
+
+-- the own variable of the application
+own-is : (c : tie.After-number Inv-loop μ-loop) → c .number .result ≡ app (turn (looked (c .before))) .own
+own-is c = let t = turn (looked (c .before)) in c .number .ensures ∙ start t .pre .4 .app-own (i t) (i-few t)
 
 lay-choice-requires : tie.Need-lay-choice-requires Inv-loop μ-loop
 lay-choice-requires c κs =
-    let t = turn (c .before) in
+    let arg = c .before .before in
+    let t = turn (looked arg) in
     let inv = t .before .loop .inv in
     let p = start t .pre in
     let xs = read t .images-of .ensures in
-    let ys = c .before .images-of2 .ensures in (
+    let ys = arg .images-of2 .ensures in (
       omega (arith, inv .more),
-      ar-positive (c .before),
-      ar-few (c .before),
+      ar-positive arg,
+      ar-few arg,
       record { long = ap length (xs .0); first = xs .1; second = xs .2; third = xs .3 },
       record { long = ap length (ys .0); first = ys .1; second = ys .2; third = ys .3 },
-      subst (λ m. m < 2632) (sym (p .4 .app-own (i t) (i-few t)))
+      subst (λ m. m < 2632) (sym (own-is (c .before)))
           (own-small (bytes (read t)) (p .0) (k (read t)) (within (read t)) (i t) (omega (arith, i-few t, p .4 .count-is))),
-      choosing-room _ _ _ _ _ _ _ inv (t .loop-test .taken) (same (c .before)),
+      choosing-room _ _ _ _ _ _ _ inv (t .loop-test .taken) (same arg),
       omega (arith, inv .long, p .3),
     )
 
@@ -232,14 +251,14 @@ loop-less c = search needs
 
 loop-again : tie.Need-loop-again Inv-loop μ-loop
 loop-again c =
-    let arg = c .before .before .before .before in
-    let t = turn arg in
+    let owned = c .before .before .before .before in
+    let arg = owned .before in
+    let t = turn (looked arg) in
     let laid = c .before .before .lay-choice in
     let s = bytes (read t) in
     let choice = choice-read (t .before .before .before) in
-    let own = start t .pre .4 .app-own (i t) (i-few t) in
     choosing-same s (k (read t)) _ _ _ _ _ (t .before .loop .inv) (t .loop-test .taken) (same arg) _ _
-    (lays-as (λ u l. chosen-one s (k (read t)) (app t) _ _ _ _ choice own (xs-whole arg) (ys-whole arg) u) refl (laid .ensures .0))
+    (lays-as (λ u l. chosen-one s (k (read t)) (app t) _ _ _ _ choice (own-is owned) (xs-whole arg) (ys-whole arg) u) refl (laid .ensures .0))
     (laid .ensures .1) (laid .ensures .2) (laid .kept .0)
 
 loop-less-2 : tie.Need-loop-less-2 Inv-loop μ-loop
@@ -247,8 +266,8 @@ loop-less-2 c = search needs
 
 loop-again-2 : tie.Need-loop-again-2 Inv-loop μ-loop
 loop-again-2 c =
-    let t = c .before .before in
-    let other = sym (tested t) ∙ sym (c .before .same-symbol .ensures) ∙ c .if2 .left in
+    let t = c .before .before .before in
+    let other = sym (tested (c .before .before)) ∙ sym (c .before .same-symbol .ensures) ∙ c .if2 .left in
     choosing-other (bytes (read t)) (k (read t)) _ _ _ _ _ (t .before .loop .inv) (t .loop-test .taken) other
 
 same-length : tie.Need-same-length Inv-loop μ-loop
@@ -276,13 +295,14 @@ lay-choices-spec =
     add-at
     loop-holds
     sub-i
-    mul-q
-    array-read-q
+    array-read-wide
+    wide-requires-2
     same-symbol-requires
     slice-aggregate-images-of-2
     images-of-requires-2
-    mul-lay-choice
-    array-read-lay-choice
+    mul-number
+    array-read-number
+    number-requires
     lay-choice-requires
     loop-less
     loop-again

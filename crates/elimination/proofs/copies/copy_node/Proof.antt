@@ -70,7 +70,9 @@ add-imaged c =
     omega (arith, has-room (c .before .before .before .before .before .before .before .before .before .before .before))
 
 imaged-requires : tie.Need-imaged-requires
-imaged-requires c κs = search needs
+imaged-requires c κs =
+    let st = c .before .before .before .before .before .before .before .before .before .before .before in
+    omega (arith, has-room st, st .pre .1 .few-nodes)
 
 same-length : tie.Need-same-length
 same-length c = search needs

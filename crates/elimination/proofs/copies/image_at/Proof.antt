@@ -117,21 +117,25 @@ module _ (c : tie.After-two-at) where
         used = is-wanted (c .before .before) ∙ e;
       }
 
-mul-result : tie.Need-mul-result
-mul-result c = search needs
+mul-number : tie.Need-mul-number
+mul-number c = search needs
 
-shared-slice-read-result : tie.Need-shared-slice-read-result
-shared-slice-read-result c =
+shared-slice-read-number : tie.Need-shared-slice-read-number
+shared-slice-read-number c =
     let at = c .before in
     omega (arith, field-read at, operand-before _ _ _ _ (in-use at), entry at .pre .6)
 
+number-requires : tie.Need-number-requires
+number-requires c κs = search needs
+
 returns-2 : tie.Need-returns-2
 returns-2 c =
-    let at = c .before in
+    let at = c .before .before in
     let images = entry at .args .images .now in
-    let are = entry at .pre .7 in (
-      ap (λ o. getD images o 0) (sym (field-read at)) ∙ image-read _ _ _ _ (in-use at) images are,
-      subst (λ o. getD images o 0 < 2632) (field-read at) (image-read-small _ _ _ _ (in-use at) images are),
+    let are = entry at .pre .7 in
+    let read = c .number .ensures ∙ ap (λ o. getD images o 0) (sym (field-read at)) in (
+      read ∙ image-read _ _ _ _ (in-use at) images are,
+      subst (λ i. i < 2632) (sym read) (image-read-small _ _ _ _ (in-use at) images are),
     )
 
 pub image-at-spec : {M : Type 1} → statement M
@@ -151,6 +155,7 @@ image-at-spec =
     mul-two-at
     add-two-at-2
     two-at-requires
-    mul-result
-    shared-slice-read-result
+    mul-number
+    shared-slice-read-number
+    number-requires
     returns-2)

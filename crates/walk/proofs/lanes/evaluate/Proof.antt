@@ -19,62 +19,62 @@ abbrev μ-loop : tie.MeasureT-loop
 loop-holds : tie.Need-loop-holds Inv-loop μ-loop
 loop-holds c = (omega arith, c .before .before .pre .2, record { solves = λ j l h. absurd (omega arith); kept = λ i h. refl })
 
-mul-wide : tie.Need-mul-wide Inv-loop μ-loop
-mul-wide c = omega arith
+mul-number : tie.Need-mul-number Inv-loop μ-loop
+mul-number c = omega arith
 
-mul-wide-2 : tie.Need-mul-wide-2 Inv-loop μ-loop
-mul-wide-2 c = omega arith
+mul-number-2 : tie.Need-mul-number-2 Inv-loop μ-loop
+mul-number-2 c = omega arith
 
-shared-slice-read-wide : tie.Need-shared-slice-read-wide Inv-loop μ-loop
-shared-slice-read-wide c = omega arith
+shared-slice-read-number : tie.Need-shared-slice-read-number Inv-loop μ-loop
+shared-slice-read-number c = omega arith
 
-wide-requires : tie.Need-wide-requires Inv-loop μ-loop
-wide-requires c κs = search needs
+number-requires : tie.Need-number-requires Inv-loop μ-loop
+number-requires c κs = search needs
 
-mul-wide-3 : tie.Need-mul-wide-3 Inv-loop μ-loop
-mul-wide-3 c = omega arith
+mul-number-3 : tie.Need-mul-number-3 Inv-loop μ-loop
+mul-number-3 c = omega arith
 
-add-wide : tie.Need-add-wide Inv-loop μ-loop
-add-wide c = omega arith
+add-number : tie.Need-add-number Inv-loop μ-loop
+add-number c = omega arith
 
-mul-wide-4 : tie.Need-mul-wide-4 Inv-loop μ-loop
-mul-wide-4 c = omega arith
+mul-number-4 : tie.Need-mul-number-4 Inv-loop μ-loop
+mul-number-4 c = omega arith
 
-shared-slice-read-wide-2 : tie.Need-shared-slice-read-wide-2 Inv-loop μ-loop
-shared-slice-read-wide-2 c = omega arith
+shared-slice-read-number-2 : tie.Need-shared-slice-read-number-2 Inv-loop μ-loop
+shared-slice-read-number-2 c = omega arith
 
-wide-requires-2 : tie.Need-wide-requires-2 Inv-loop μ-loop
-wide-requires-2 c κs = search needs
+number-requires-2 : tie.Need-number-requires-2 Inv-loop μ-loop
+number-requires-2 c κs = search needs
 
-mul-wide-5 : tie.Need-mul-wide-5 Inv-loop μ-loop
-mul-wide-5 c = omega arith
+mul-number-5 : tie.Need-mul-number-5 Inv-loop μ-loop
+mul-number-5 c = omega arith
 
-add-wide-2 : tie.Need-add-wide-2 Inv-loop μ-loop
-add-wide-2 c = omega arith
+add-number-2 : tie.Need-add-number-2 Inv-loop μ-loop
+add-number-2 c = omega arith
 
-mul-wide-6 : tie.Need-mul-wide-6 Inv-loop μ-loop
-mul-wide-6 c = omega arith
+mul-number-6 : tie.Need-mul-number-6 Inv-loop μ-loop
+mul-number-6 c = omega arith
 
-shared-slice-read-wide-3 : tie.Need-shared-slice-read-wide-3 Inv-loop μ-loop
-shared-slice-read-wide-3 c = omega arith
+shared-slice-read-number-3 : tie.Need-shared-slice-read-number-3 Inv-loop μ-loop
+shared-slice-read-number-3 c = omega arith
 
-wide-requires-3 : tie.Need-wide-requires-3 Inv-loop μ-loop
-wide-requires-3 c κs = search needs
+number-requires-3 : tie.Need-number-requires-3 Inv-loop μ-loop
+number-requires-3 c κs = search needs
 
-mul-wide-7 : tie.Need-mul-wide-7 Inv-loop μ-loop
-mul-wide-7 c = omega arith
+mul-number-7 : tie.Need-mul-number-7 Inv-loop μ-loop
+mul-number-7 c = omega arith
 
-add-wide-3 : tie.Need-add-wide-3 Inv-loop μ-loop
-add-wide-3 c = omega arith
+add-number-3 : tie.Need-add-number-3 Inv-loop μ-loop
+add-number-3 c = omega arith
 
-mul-wide-8 : tie.Need-mul-wide-8 Inv-loop μ-loop
-mul-wide-8 c = omega arith
+mul-number-8 : tie.Need-mul-number-8 Inv-loop μ-loop
+mul-number-8 c = omega arith
 
-shared-slice-read-wide-4 : tie.Need-shared-slice-read-wide-4 Inv-loop μ-loop
-shared-slice-read-wide-4 c = omega arith
+shared-slice-read-number-4 : tie.Need-shared-slice-read-number-4 Inv-loop μ-loop
+shared-slice-read-number-4 c = omega arith
 
-wide-requires-4 : tie.Need-wide-requires-4 Inv-loop μ-loop
-wide-requires-4 c κs = search needs
+number-requires-4 : tie.Need-number-requires-4 Inv-loop μ-loop
+number-requires-4 c κs = search needs
 
 pick-requires : tie.Need-pick-requires Inv-loop μ-loop
 pick-requires c κs =
@@ -82,10 +82,10 @@ pick-requires c κs =
     let l = c .before .before .before .before .before .before .before .before .before .before .loop in
     let few = s .pre .0 in
     let r = s .pre .3 (l .k) (omega arith) in (
-      room (l .k) _ _ (l .cells) (omega arith) (l .inv .1) (r .left) (c .before .before .before .before .before .before .wide .ensures),
-      room (l .k) _ _ (l .cells) (omega arith) (l .inv .1) (r .right) (c .before .before .before .before .wide2 .ensures),
-      room (l .k) _ _ (l .cells) (omega arith) (l .inv .1) (r .same) (c .before .before .wide3 .ensures),
-      room (l .k) _ _ (l .cells) (omega arith) (l .inv .1) (r .apart) (c .wide4 .ensures),
+      room (l .k) _ _ (l .cells) (omega arith) (l .inv .1) (r .left) (c .before .before .before .before .before .before .number .ensures),
+      room (l .k) _ _ (l .cells) (omega arith) (l .inv .1) (r .right) (c .before .before .before .before .number2 .ensures),
+      room (l .k) _ _ (l .cells) (omega arith) (l .inv .1) (r .same) (c .before .before .number3 .ensures),
+      room (l .k) _ _ (l .cells) (omega arith) (l .inv .1) (r .apart) (c .number4 .ensures),
     )
 
 mul-put-lanes : tie.Need-mul-put-lanes Inv-loop μ-loop
@@ -111,7 +111,7 @@ loop-again c =
     let s = c .before .before .before .before .before .before .before .before .before .before .before .before .before .before .before .before .before .before in
     let l = c .before .before .before .before .before .before .before .before .before .before .before .before .before .before .before .loop in
     let few = s .pre .0 in
-    let picked = picked-equal (l .cells) (c .before .before .before .before .pick .result) _ _ _ _ _ _ _ _ (c .before .before .before .before .before .before .before .before .before .before .before .wide .ensures) (c .before .before .before .before .before .before .before .before .before .wide2 .ensures) (c .before .before .before .before .before .before .before .wide3 .ensures) (c .before .before .before .before .before .wide4 .ensures) (c .before .before .before .before .pick .ensures) in (
+    let picked = picked-equal (l .cells) (c .before .before .before .before .pick .result) _ _ _ _ _ _ _ _ (c .before .before .before .before .before .before .before .before .before .before .before .number .ensures) (c .before .before .before .before .before .before .before .before .before .number2 .ensures) (c .before .before .before .before .before .before .before .number3 .ensures) (c .before .before .before .before .before .number4 .ensures) (c .before .before .before .before .pick .ensures) in (
       omega arith,
       c .before .before .put-lanes .kept .0 ∙ l .inv .1,
       solves-more (s .args .branches .now) (l .cells) (c .before .before .before .before .pick .result) (c .before .before .put-lanes .last .0) (l .k) (omega arith) (c .before .before .put-lanes .ensures) (s .args .cells .now) (λ j h. s .pre .3 j (omega arith)) picked (l .inv .2),
@@ -133,25 +133,25 @@ evaluate-spec =
     Inv-loop
     μ-loop
     loop-holds
-    mul-wide
-    mul-wide-2
-    shared-slice-read-wide
-    wide-requires
-    mul-wide-3
-    add-wide
-    mul-wide-4
-    shared-slice-read-wide-2
-    wide-requires-2
-    mul-wide-5
-    add-wide-2
-    mul-wide-6
-    shared-slice-read-wide-3
-    wide-requires-3
-    mul-wide-7
-    add-wide-3
-    mul-wide-8
-    shared-slice-read-wide-4
-    wide-requires-4
+    mul-number
+    mul-number-2
+    shared-slice-read-number
+    number-requires
+    mul-number-3
+    add-number
+    mul-number-4
+    shared-slice-read-number-2
+    number-requires-2
+    mul-number-5
+    add-number-2
+    mul-number-6
+    shared-slice-read-number-3
+    number-requires-3
+    mul-number-7
+    add-number-3
+    mul-number-8
+    shared-slice-read-number-4
+    number-requires-4
     pick-requires
     mul-put-lanes
     put-lanes-requires
