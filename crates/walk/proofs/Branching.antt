@@ -14,30 +14,21 @@ use Rattle.definitions.specs.Problem.Ops.{term, formula, opOf}
 use Rattle.ranges.specs.Table.{TableIn, tableIn}
 use Rattle.walk.specs.declared.branches.Branch.{Branch}
 use Rattle.walk.specs.Digits.{valueIn}
-use Rattle.walk.specs.Cells.{one, where-true, branchBy, branchOf, Stored, Decoded, Earlier, Ready, Ordered}
+use Rattle.walk.specs.Cells.{one, where-true, branchBy, branchOf, Stored, Decoded, Ready, Ordered}
 use Rattle.walk.proofs.Values.{node-here, operands, variable-named, truth-named}
 
--- a cell that node k may read: of an earlier node, or after the nodes
-abbrev pub CellBefore : ℕ → ℕ → Type 0
-CellBefore k c = (c < k) ⊎ ((2632 ≤ c) × (c < 2674))
-
+-- the cells of a branch stand before that of node k
 pub record BranchBefore (k : ℕ) (b : Branch) : Type 0 where
-  pub left : CellBefore k (b .left)
-  pub right : CellBefore k (b .right)
-  pub same : CellBefore k (b .same)
-  pub apart : CellBefore k (b .apart)
+  pub left : b .left < 42 + k
+  pub right : b .right < 42 + k
+  pub same : b .same < 42 + k
+  pub apart : b .apart < 42 + k
 
-false-before : (k : ℕ) → CellBefore k 2632
-false-before k = inr (omega arith, omega arith)
-
-true-before : (k : ℕ) → CellBefore k 2633
-true-before k = inr (omega arith, omega arith)
-
-one-before : (k c : ℕ) → CellBefore k c → BranchBefore k (one c)
+one-before : (k c : ℕ) → c < 42 + k → BranchBefore k (one c)
 one-before k c h = record { left = h; right = h; same = h; apart = h }
 
-choice-before : (k c s a : ℕ) → CellBefore k c → CellBefore k s → CellBefore k a → BranchBefore k (where-true c s a)
-choice-before k c s a x y z = record { left = x; right = true-before k; same = y; apart = z }
+choice-before : (k c s a : ℕ) → c < 42 + k → s < 42 + k → a < 42 + k → BranchBefore k (where-true c s a)
+choice-before k c s a x y z = record { left = x; right = omega arith; same = y; apart = z }
 
 module _ (bytes : List ℕ) (nodes N P : ℕ) (tab : TableIn bytes nodes N P) (k : ℕ) (below : k < nodes) where
   abbrev n : Node
@@ -53,51 +44,39 @@ module _ (bytes : List ℕ) (nodes N P : ℕ) (tab : TableIn bytes nodes N P) (k
   by-op : (op : ℕ) → n .op ≡ op → BranchBefore k (branchBy N n (opOf op))
   by-op zero q =
       let v = variable-named bytes nodes N P tab [] k below val (λ i h. refl) q in
-      let few = tab .few-variables in
-      one-before k (2634 + n .sym) (inr (omega arith, omega arith))
+      one-before k (2 + n .sym) (omega arith)
   by-op (suc zero) q =
       let w = operands bytes nodes N P tab [] k below val (λ i h. refl) 1 q (formula ∷ term ∷ term ∷ []) refl in
-      choice-before k (n .a) (n .b) (n .c) (inl (w .0)) (inl (w .2 .0)) (inl (w .2 .2 .0))
+      choice-before k (42 + n .a) (42 + n .b) (42 + n .c) (omega arith) (omega arith) (omega arith)
   by-op (suc (suc zero)) q =
       let w = operands bytes nodes N P tab [] k below val (λ i h. refl) 2 q (term ∷ term ∷ []) refl in
-      record { left = inl (w .0); right = inl (w .2 .0); same = true-before k; apart = false-before k }
+      record { left = omega arith; right = omega arith; same = omega arith; apart = omega arith }
   by-op (suc (suc (suc zero))) q =
       let w = operands bytes nodes N P tab [] k below val (λ i h. refl) 3 q (formula ∷ []) refl in
-      choice-before k (n .a) 2632 2633 (inl (w .0)) (false-before k) (true-before k)
+      choice-before k (42 + n .a) 0 1 (omega arith) (omega arith) (omega arith)
   by-op (suc (suc (suc (suc zero)))) q =
       let w = operands bytes nodes N P tab [] k below val (λ i h. refl) 4 q (formula ∷ formula ∷ []) refl in
-      choice-before k (n .a) (n .b) 2632 (inl (w .0)) (inl (w .2 .0)) (false-before k)
+      choice-before k (42 + n .a) (42 + n .b) 0 (omega arith) (omega arith) (omega arith)
   by-op (suc (suc (suc (suc (suc zero))))) q =
       let w = operands bytes nodes N P tab [] k below val (λ i h. refl) 5 q (formula ∷ formula ∷ []) refl in
-      choice-before k (n .a) 2633 (n .b) (inl (w .0)) (true-before k) (inl (w .2 .0))
+      choice-before k (42 + n .a) 1 (42 + n .b) (omega arith) (omega arith) (omega arith)
   by-op (suc (suc (suc (suc (suc (suc zero)))))) q =
       let v = truth-named bytes nodes N P tab [] k below val (λ i h. refl) q in
-      let few = tab .few-variables in
-      let fewer = tab .few-truths in
-      one-before k (2634 + (N + n .sym)) (inr (omega arith, omega arith))
-  by-op (suc (suc (suc (suc (suc (suc (suc zero))))))) q = one-before k 2633 (true-before k)
-  by-op (suc (suc (suc (suc (suc (suc (suc (suc zero)))))))) q = one-before k 2632 (false-before k)
+      one-before k (2 + (N + n .sym)) (omega arith)
+  by-op (suc (suc (suc (suc (suc (suc (suc zero))))))) q = one-before k 1 (omega arith)
+  by-op (suc (suc (suc (suc (suc (suc (suc (suc zero)))))))) q = one-before k 0 (omega arith)
   by-op (suc (suc (suc (suc (suc (suc (suc (suc (suc zero))))))))) q =
       let w = operands bytes nodes N P tab [] k below val (λ i h. refl) 9 q (formula ∷ formula ∷ formula ∷ []) refl in
-      choice-before k (n .a) (n .b) (n .c) (inl (w .0)) (inl (w .2 .0)) (inl (w .2 .2 .0))
-  by-op (suc (suc (suc (suc (suc (suc (suc (suc (suc (suc op)))))))))) q = one-before k 2632 (false-before k)
+      choice-before k (42 + n .a) (42 + n .b) (42 + n .c) (omega arith) (omega arith) (omega arith)
+  by-op (suc (suc (suc (suc (suc (suc (suc (suc (suc (suc op)))))))))) q = one-before k 0 (omega arith)
 
   -- the branch of node k reads only what is there before it
   pub branch-before : BranchBefore k (branchOf N n)
   branch-before = by-op (n .op) refl
 
-earlier : (k c at : ℕ) → at ≡ 16 * c → CellBefore k c → Earlier k at
-earlier k c at e (inl h) = inl (omega arith)
-earlier k c at e (inr h) = inr (omega arith, omega arith)
-
 ready : (bs : List ℕ) (k : ℕ) (b : Branch) → Stored bs k b → BranchBefore k b → Ready bs k
 ready bs k b s h =
-    record {
-      left = earlier k (b .left) _ (s .left-is) (h .left);
-      right = earlier k (b .right) _ (s .right-is) (h .right);
-      same = earlier k (b .same) _ (s .same-is) (h .same);
-      apart = earlier k (b .apart) _ (s .apart-is) (h .apart);
-    }
+    record { left = omega arith; right = omega arith; same = omega arith; apart = omega arith }
 
 -- so the branches of a table, as they stand in an array, are in order
 pub ordered : (table : List ℕ) (nodes N P : ℕ) (bs : List ℕ) → TableIn table nodes N P → Decoded table nodes N bs nodes → Ordered bs nodes
@@ -112,35 +91,35 @@ module _ (table : List ℕ) (N at : ℕ) where
   of-op : (op : ℕ) → byteAt table at ≡ op → branchBy N m (opOf op) ≡ branchOf N m
   of-op op q = ap (λ x. branchBy N m (opOf x)) (sym q)
 
-  pub as-variable : (s : ℕ) → s ≡ byteAt table (at + 1) → byteAt table at ≡ 0 → one (2634 + s) ≡ branchOf N m
-  as-variable s e q = ap (λ x. one (2634 + x)) e ∙ of-op 0 q
+  pub as-variable : (s : ℕ) → s ≡ byteAt table (at + 1) → byteAt table at ≡ 0 → one (2 + s) ≡ branchOf N m
+  as-variable s e q = ap (λ x. one (2 + x)) e ∙ of-op 0 q
 
-  pub as-choice : (a b c : ℕ) → a ≡ twoAt table (at + 2) → b ≡ twoAt table (at + 4) → c ≡ twoAt table (at + 6)
+  pub as-choice : (a b c : ℕ) → a ≡ 42 + twoAt table (at + 2) → b ≡ 42 + twoAt table (at + 4) → c ≡ 42 + twoAt table (at + 6)
       → (byteAt table at ≡ 1) ⊎ (byteAt table at ≡ 9) → where-true a b c ≡ branchOf N m
   as-choice a b c x y z q =
-      ap (λ i. where-true i b c) x ∙ ap₂ (λ i j. where-true (m .a) i j) y z ∙ elim q [ inl p ↦ of-op 1 p | inr p ↦ of-op 9 p ]
+      ap (λ i. where-true i b c) x ∙ ap₂ (λ i j. where-true (42 + m .a) i j) y z ∙ elim q [ inl p ↦ of-op 1 p | inr p ↦ of-op 9 p ]
 
-  pub as-equal : (a b : ℕ) → a ≡ twoAt table (at + 2) → b ≡ twoAt table (at + 4) → byteAt table at ≡ 2
-      → record { left = a; right = b; same = 2633; apart = 2632 } ≡ branchOf N m
-  as-equal a b x y q = ap₂ (λ i j. record { left = i; right = j; same = 2633; apart = 2632 }) x y ∙ of-op 2 q
+  pub as-equal : (a b : ℕ) → a ≡ 42 + twoAt table (at + 2) → b ≡ 42 + twoAt table (at + 4) → byteAt table at ≡ 2
+      → record { left = a; right = b; same = 1; apart = 0 } ≡ branchOf N m
+  as-equal a b x y q = ap₂ (λ i j. record { left = i; right = j; same = 1; apart = 0 }) x y ∙ of-op 2 q
 
-  pub as-not : (a : ℕ) → a ≡ twoAt table (at + 2) → byteAt table at ≡ 3 → where-true a 2632 2633 ≡ branchOf N m
-  as-not a x q = ap (λ i. where-true i 2632 2633) x ∙ of-op 3 q
+  pub as-not : (a : ℕ) → a ≡ 42 + twoAt table (at + 2) → byteAt table at ≡ 3 → where-true a 0 1 ≡ branchOf N m
+  as-not a x q = ap (λ i. where-true i 0 1) x ∙ of-op 3 q
 
-  pub as-and : (a b : ℕ) → a ≡ twoAt table (at + 2) → b ≡ twoAt table (at + 4) → byteAt table at ≡ 4 → where-true a b 2632 ≡ branchOf N m
-  as-and a b x y q = ap₂ (λ i j. where-true i j 2632) x y ∙ of-op 4 q
+  pub as-and : (a b : ℕ) → a ≡ 42 + twoAt table (at + 2) → b ≡ 42 + twoAt table (at + 4) → byteAt table at ≡ 4 → where-true a b 0 ≡ branchOf N m
+  as-and a b x y q = ap₂ (λ i j. where-true i j 0) x y ∙ of-op 4 q
 
-  pub as-or : (a b : ℕ) → a ≡ twoAt table (at + 2) → b ≡ twoAt table (at + 4) → byteAt table at ≡ 5 → where-true a 2633 b ≡ branchOf N m
-  as-or a b x y q = ap₂ (λ i j. where-true i 2633 j) x y ∙ of-op 5 q
+  pub as-or : (a b : ℕ) → a ≡ 42 + twoAt table (at + 2) → b ≡ 42 + twoAt table (at + 4) → byteAt table at ≡ 5 → where-true a 1 b ≡ branchOf N m
+  as-or a b x y q = ap₂ (λ i j. where-true i 1 j) x y ∙ of-op 5 q
 
-  pub as-truth : (s : ℕ) → s ≡ byteAt table (at + 1) → byteAt table at ≡ 6 → one (2634 + (N + s)) ≡ branchOf N m
-  as-truth s e q = ap (λ x. one (2634 + (N + x))) e ∙ of-op 6 q
+  pub as-truth : (s : ℕ) → s ≡ byteAt table (at + 1) → byteAt table at ≡ 6 → one (2 + (N + s)) ≡ branchOf N m
+  as-truth s e q = ap (λ x. one (2 + (N + x))) e ∙ of-op 6 q
 
-  pub as-yes : byteAt table at ≡ 7 → one 2633 ≡ branchOf N m
+  pub as-yes : byteAt table at ≡ 7 → one 1 ≡ branchOf N m
   as-yes q = of-op 7 q
 
   no-more : (op : ℕ) → (op ≡ 0 → ⊥) → ((op ≡ 1) ⊎ (op ≡ 9) → ⊥) → (op ≡ 2 → ⊥) → (op ≡ 3 → ⊥) → (op ≡ 4 → ⊥) → (op ≡ 5 → ⊥) → (op ≡ 6 → ⊥)
-      → (op ≡ 7 → ⊥) → one 2632 ≡ branchBy N m (opOf op)
+      → (op ≡ 7 → ⊥) → one 0 ≡ branchBy N m (opOf op)
   no-more zero a b c d e f g h = absurd (a refl)
   no-more (suc zero) a b c d e f g h = absurd (b (inl refl))
   no-more (suc (suc zero)) a b c d e f g h = absurd (c refl)
@@ -156,7 +135,7 @@ module _ (table : List ℕ) (N at : ℕ) where
   -- false, and what is no op
   pub as-rest : (byteAt table at ≡ 0 → ⊥) → ((byteAt table at ≡ 1) ⊎ (byteAt table at ≡ 9) → ⊥) → (byteAt table at ≡ 2 → ⊥)
       → (byteAt table at ≡ 3 → ⊥) → (byteAt table at ≡ 4 → ⊥) → (byteAt table at ≡ 5 → ⊥) → (byteAt table at ≡ 6 → ⊥)
-      → (byteAt table at ≡ 7 → ⊥) → one 2632 ≡ branchOf N m
+      → (byteAt table at ≡ 7 → ⊥) → one 0 ≡ branchOf N m
   as-rest = no-more (byteAt table at)
 
 -- a branch laid in an array at its four places
@@ -221,10 +200,6 @@ module _ (bs : List ℕ) (k : ℕ) (b : Branch) where
         apart-is = getD-set-same third (4 * k + 3) (16 * b .apart) 0 (omega arith);
       }
 
-small : (k c : ℕ) → k < 2632 → CellBefore k c → c < 2674
-small k c h (inl x) = omega arith
-small k c h (inr x) = x .1
-
 -- the branch that the code makes of node k has cells below 2674
 module _
     (table : List ℕ)
@@ -239,14 +214,13 @@ module _
 
   pub small-branch : (b .left < 2674) × (b .right < 2674) × (b .same < 2674) × (b .apart < 2674)
   small-branch =
-      let h : k < 2632 = (let few = tab .few-nodes in omega arith) in
       let w = subst (λ (x : Branch). BranchBefore k x) (sym made) (branch-before table nodes N P tab k below) in
-      (small k (b .left) h (w .left), small k (b .right) h (w .right), small k (b .same) h (w .same), small k (b .apart) h (w .apart))
+      (omega arith, omega arith, omega arith, omega arith)
 
   -- laid after the branches of the nodes before it
-  pub decoded-more : (bs : List ℕ) → length bs ≡ 10528 → Decoded table nodes N bs k → Decoded table nodes N (laid bs k b) (k + 1)
+  pub decoded-more : (bs : List ℕ) → 4 * nodes ≤ length bs → Decoded table nodes N bs k → Decoded table nodes N (laid bs k b) (k + 1)
   decoded-more bs long d =
       record {
         stored = below-more (λ j. Stored (laid bs k b) j (branchOf N (node (tableIn table nodes) j))) k (λ j h. laid-before bs k b j h _ (d .stored j h))
-            (subst (Stored (laid bs k b) k) made (laid-here bs k b (let few = tab .few-nodes in omega arith)));
+            (subst (Stored (laid bs k b) k) made (laid-here bs k b (omega arith)));
       }

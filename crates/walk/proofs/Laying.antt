@@ -135,9 +135,9 @@ module _ (before : List ℕ) (at : ℕ) (lanes : List ℕ) where
 
 -- one node's value more
 pub copies-more : (cells : List ℕ) → (lane k : ℕ) → (vals : List ℕ) → LaneCopied cells lane k vals → k < length vals
-    → LaneCopied cells lane (k + 1) (set vals k (cell cells k lane))
+    → LaneCopied cells lane (k + 1) (set vals k (cell cells (42 + k) lane))
 copies-more cells lane k vals p h =
-    let x = cell cells k lane in
+    let x = cell cells (42 + k) lane in
     record {
       copied =
           λ j b.
@@ -145,7 +145,7 @@ copies-more cells lane k vals p h =
             | inl u ↦ getD-set-other vals k j x 0 (λ q. omega arith) ∙ p .copied j u
             | inr u ↦
                 let q : k ≡ j = omega arith in
-                subst (λ m. getD (set vals k x) m 0 ≡ cell cells m lane) q (getD-set-same vals k x 0 h)
+                subst (λ m. getD (set vals k x) m 0 ≡ cell cells (42 + m) lane) q (getD-set-same vals k x 0 h)
           ];
     }
 
@@ -156,9 +156,8 @@ branchTakes bs cells j l =
     (getD cells (getD bs (4 * j + 3) 0 + l) 0)
 
 -- what stands ready for a node lies within the cells
-pub room : (k at w : ℕ) → (cells : List ℕ) → k < 2632 → length cells ≡ 42784 → Earlier k at → w ≡ at → w + 16 ≤ length cells
-room k at w cells h long (inl e) q = omega arith
-room k at w cells h long (inr e) q = let u = e .1 in omega arith
+pub room : (k at w nodes : ℕ) → (cells : List ℕ) → k < nodes → 16 * (42 + nodes) ≤ length cells → Earlier k at → w ≡ at → w + 16 ≤ length cells
+room k at w nodes cells h long e q = omega arith
 
 chosen-equal : (x y p q x' y' p' q' : ℕ) → x ≡ x' → y ≡ y' → p ≡ p' → q ≡ q' → chosen x y p q ≡ chosen x' y' p' q'
 chosen-equal x y p q x' y' p' q' a b c d =
@@ -173,10 +172,9 @@ picked-equal cells lanes x y p q x' y' p' q' a b c d v =
     (subst (λ n. Picked cells x y p n lanes) d v)))
 
 -- lanes laid for node k leave what the nodes up to k read as it was
-module _ (bs cells lanes after : List ℕ) (k : ℕ) (few : k < 2632) (laid : LanesLaid cells (16 * k) lanes after) where
+module _ (bs cells lanes after : List ℕ) (k : ℕ) (laid : LanesLaid cells (16 * (42 + k)) lanes after) where
   read-kept : (j at l : ℕ) → j ≤ k → l < 16 → Earlier j at → getD after (at + l) 0 ≡ getD cells (at + l) 0
-  read-kept j at l h b (inl e) = laid .outside (at + l) (inl (omega arith))
-  read-kept j at l h b (inr e) = laid .outside (at + l) (inr (let u = e .0 in omega arith))
+  read-kept j at l h b e = laid .outside (at + l) (inl (omega arith))
 
   takes-kept : (j l : ℕ) → j ≤ k → l < 16 → Ready bs j → branchTakes bs cells j l ≡ branchTakes bs after j l
   takes-kept j l h b r =
@@ -193,13 +191,13 @@ module _ (bs cells lanes after : List ℕ) (k : ℕ) (few : k < 2632) (laid : La
             λ j l h b.
             elim (split j k) [
               | inl u ↦
-                  laid .outside (16 * j + l) (inl (omega arith))
+                  laid .outside (16 * (42 + j) + l) (inl (omega arith))
                   ∙ s .solves j l u b
                   ∙ takes-kept j l (omega arith) b (ready j (omega arith))
               | inr u ↦
                   let q : k ≡ j = omega arith in
-                  subst (λ m. cell after m l ≡ branchTakes bs after m l) q
+                  subst (λ m. cell after (42 + m) l ≡ branchTakes bs after m l) q
                   (laid .inside l b ∙ picked .lane l b ∙ takes-kept k l (omega arith) b (ready k (omega arith)))
             ];
-        kept = λ i h. laid .outside i (inr (omega arith)) ∙ s .kept i h;
+        kept = λ i h. laid .outside i (inl (omega arith)) ∙ s .kept i h;
       }

@@ -34,9 +34,10 @@ digit-small o t v =
 pub record Placing (o : Odometer) (N : ℕ) (before cells digits : List ℕ) (lane : ℕ) : Type 0 where
   pub few : N ≤ o .count
   pub turning : Turning (record { digits = digits; sizes = o .sizes; count = o .count })
-  pub long : length cells ≡ 42784
+  pub room : 672 ≤ length before
+  pub long : length cells ≡ length before
   pub within : lane ≤ 15
-  pub kept : (i : ℕ) → i < 42144 → getD cells i 0 ≡ getD before i 0
+  pub kept : (i : ℕ) → i < 32 → getD cells i 0 ≡ getD before i 0
   pub onward : (t : ℕ) → digitsOf o ≡ digitsAfter (sizesIn o) t → take (o .count) digits ≡ digitsAfter (sizesIn o) (t + lane)
   pub lanes : (t : ℕ) → digitsOf o ≡ digitsAfter (sizesIn o) t → (l : ℕ) → l < lane → LaneHolds N (o .count) (digitsAfter (sizesIn o) (t + l)) cells l
 
@@ -44,12 +45,13 @@ module _ (o : Odometer) (N : ℕ) (before : List ℕ) where
   abbrev ss : List ℕ
   ss = sizesIn o
 
-  pub placing-begins : Turning o → N ≤ o .count → length before ≡ 42784 → Placing o N before before (o .digits) 0
+  pub placing-begins : Turning o → N ≤ o .count → 672 ≤ length before → Placing o N before before (o .digits) 0
   placing-begins t c l =
       record {
         few = c;
         turning = t;
-        long = l;
+        room = l;
+        long = refl;
         within = omega arith;
         kept = λ i h. refl;
         onward = λ t e. e ∙ ap (digitsAfter ss) (let q : t ≡ t + 0 = omega arith in q);
@@ -69,8 +71,8 @@ module _ (o : Odometer) (N : ℕ) (before : List ℕ) where
               let was = p .lanes t e l q in
               let w = p .within in
               record {
-                variable = λ v b. put .outside (16 * (2634 + v) + l) (λ u c r. omega arith) ∙ was .variable v b;
-                truth = λ v a b. put .outside (16 * (2634 + v) + l) (λ u c r. omega arith) ∙ was .truth v a b;
+                variable = λ v b. put .outside (16 * (2 + v) + l) (λ u c r. omega arith) ∙ was .variable v b;
+                truth = λ v a b. put .outside (16 * (2 + v) + l) (λ u c r. omega arith) ∙ was .truth v a b;
               }
           | inr q ↦
               subst (λ m. LaneHolds N (o .count) (digitsAfter ss (t + m)) after m) (let r : lane ≡ l = omega arith in r)
@@ -80,11 +82,11 @@ module _ (o : Odometer) (N : ℕ) (before : List ℕ) where
               })
         ]
 
-    kept-more : (i : ℕ) → i < 42144 → getD after i 0 ≡ getD before i 0
+    kept-more : (i : ℕ) → i < 32 → getD after i 0 ≡ getD before i 0
     kept-more i h = put .outside i (λ v u q. omega arith) ∙ p .kept i h
 
     -- the digits go on, and a lane more is laid
-    pub placing-more : lane < 15 → (step : Step) → NextIs (record { digits = digits; sizes = o .sizes; count = o .count }) step → length after ≡ 42784
+    pub placing-more : lane < 15 → (step : Step) → NextIs (record { digits = digits; sizes = o .sizes; count = o .count }) step → length after ≡ length before
         → Placing o N before after (step .odometer .digits) (lane + 1)
     placing-more low step n long =
         record {
@@ -92,6 +94,7 @@ module _ (o : Odometer) (N : ℕ) (before : List ℕ) where
           turning =
               subst (λ m. Turning (record { digits = step .odometer .digits; sizes = o .sizes; count = m })) (n .same-count)
               (subst (λ xs. Turning (record { digits = step .odometer .digits; sizes = xs; count = step .odometer .count })) (n .same-sizes) (n .turning));
+          room = p .room;
           long = long;
           within = omega arith;
           kept = kept-more;

@@ -32,9 +32,9 @@ pub record Walking (table : List ℕ) (nodes N P root : ℕ) (o : Odometer) (lim
   pub root-in : RootIn table nodes root
   pub starts : Starts N P o
   pub long : length vals ≡ 2632
-  pub branches-long : length bs ≡ 10528
+  pub branches-long : 4 * nodes ≤ length bs
   pub decoded : Decoded table nodes N bs nodes
-  pub cells-long : length cells ≡ 42784
+  pub cells-long : 16 * (42 + nodes) ≤ length cells
   pub constant : Constant cells
   pub reached : tried ≤ limit
   pub turning : Turning now
@@ -56,18 +56,22 @@ lanes-few many left e =
     ]
     in (omega arith, omega arith, most)
 
--- false is there from the start, and true is laid
-pub constant-laid : (cells : List ℕ) → LanesLaid (replicate 42784 0) 42128 (replicate 16 1) cells → Constant cells
-constant-laid cells laid =
+-- false and then true are laid
+pub constant-laid : (before mid cells : List ℕ) → LanesLaid before 0 (replicate 16 0) mid → LanesLaid mid 16 (replicate 16 1) cells → Constant cells
+constant-laid before mid cells first second =
     record {
-      no = λ l h. laid .outside (16 * 2632 + l) (inl (omega arith)) ∙ getD-replicate 42784 (16 * 2632 + l) 0 0 (omega arith);
+      no =
+          λ l h.
+          second .outside (16 * 0 + l) (inl (omega arith)) ∙ ap (λ i. getD mid i 0) (let e : 16 * 0 + l ≡ 0 + l = omega arith in e)
+          ∙ first .inside l h
+          ∙ getD-replicate 16 l 0 0 h;
       yes =
           λ l h.
-          ap (λ i. getD cells i 0) (let e : 16 * 2633 + l ≡ 42128 + l = omega arith in e) ∙ laid .inside l h ∙ getD-replicate 16 l 1 0 h;
+          ap (λ i. getD cells i 0) (let e : 16 * 1 + l ≡ 16 + l = omega arith in e) ∙ second .inside l h ∙ getD-replicate 16 l 1 0 h;
     }
 
 pub sets-out : (table : List ℕ) (nodes N P root : ℕ) (o : Odometer) (limit : ℕ) (bs vals cells : List ℕ) → TableIn table nodes N P
-    → RootIn table nodes root → Starts N P o → length vals ≡ 2632 → length bs ≡ 10528 → Decoded table nodes N bs nodes → length cells ≡ 42784
+    → RootIn table nodes root → Starts N P o → length vals ≡ 2632 → 4 * nodes ≤ length bs → Decoded table nodes N bs nodes → 16 * (42 + nodes) ≤ length cells
     → Constant cells → Walking table nodes N P root o limit bs vals cells o 0
 sets-out table nodes N P root o limit bs vals cells tab r s l bl d cl con =
     record {
@@ -129,16 +133,16 @@ module _
     constant-mid : Constant mid
     constant-mid =
         record {
-          no = λ l h. laid .kept (16 * 2632 + l) (omega arith) ∙ w .constant .no l h;
-          yes = λ l h. laid .kept (16 * 2633 + l) (omega arith) ∙ w .constant .yes l h;
+          no = λ l h. laid .kept (16 * 0 + l) (omega arith) ∙ w .constant .no l h;
+          yes = λ l h. laid .kept (16 * 1 + l) (omega arith) ∙ w .constant .yes l h;
         }
 
     module _ (after : List ℕ) (solved : Solved bs mid after nodes) where
       constant-after : Constant after
       constant-after =
           record {
-            no = λ l h. solved .kept (16 * 2632 + l) (omega arith) ∙ constant-mid .no l h;
-            yes = λ l h. solved .kept (16 * 2633 + l) (omega arith) ∙ constant-mid .yes l h;
+            no = λ l h. solved .kept (16 * 0 + l) (omega arith) ∙ constant-mid .no l h;
+            yes = λ l h. solved .kept (16 * 1 + l) (omega arith) ∙ constant-mid .yes l h;
           }
 
       -- each lane holds its place
@@ -147,18 +151,18 @@ module _
           let was = subst (λ xs. LaneHolds N (now .count) (digitsAfter xs (tried + l)) mid l) sizes-same (laid .lanes tried stands l h) in
           let c = w .same-count ∙ w .starts .count-is in
           record {
-            variable = λ v b. solved .kept (16 * (2634 + v) + l) (omega arith) ∙ was .variable v b;
-            truth = λ v a b. solved .kept (16 * (2634 + v) + l) (omega arith) ∙ was .truth v a (omega arith);
+            variable = λ v b. solved .kept (16 * (2 + v) + l) (omega arith) ∙ was .variable v b;
+            truth = λ v a b. solved .kept (16 * (2 + v) + l) (omega arith) ∙ was .truth v a (omega arith);
           }
 
       -- and the values of its place, which is the one after those tried and the lanes before
-      lane-place : (l : ℕ) → l < 16 → (k : ℕ) → k < nodes → cell after k l ≡ valueIn table nodes N (digitsAt ss (tried + l + 1)) k
+      lane-place : (l : ℕ) → l < 16 → (k : ℕ) → k < nodes → cell after (42 + k) l ≡ valueIn table nodes N (digitsAt ss (tried + l + 1)) k
       lane-place l h k b =
           lane-value table nodes N P (w .table-in) bs mid after (w .decoded) solved constant-after l h (digitsAfter ss (tried + l)) (lane-holds l h)
           (digits-right (tried + l)) k b
           ∙ ap (λ ds. valueIn table nodes N ds k) (sym (ap (digitsAt ss) (add-one (tried + l))))
 
-      root-byte : (l : ℕ) → l < 16 → cell after root l ≡ bit (good (tried + l + 1))
+      root-byte : (l : ℕ) → l < 16 → cell after (42 + root) l ≡ bit (good (tried + l + 1))
       root-byte l h =
           let b = w .root-in .below in
           lane-place l h root b ∙ truth-byte table nodes N P (w .table-in) (digitsAt ss (tried + l + 1)) root b (w .root-in .is-formula)
@@ -172,7 +176,7 @@ module _
       not-zero false e = absurd (e refl)
 
       -- a lane that is not false is a place that holds
-      lane-true : (l : ℕ) → l < 16 → (cell after root l ≡ 0 → ⊥) → (p : ℕ) → p ≡ tried + l + 1 → good p ≡ true
+      lane-true : (l : ℕ) → l < 16 → (cell after (42 + root) l ≡ 0 → ⊥) → (p : ℕ) → p ≡ tried + l + 1 → good p ≡ true
       lane-true l h n p e = subst (λ m. good m ≡ true) (sym e) (not-zero (good (tried + l + 1)) (λ z. n (root-byte l h ∙ z)))
 
       module _ (many lane : ℕ) (few : many ≤ 16) (left : many ≤ limit - tried) (found : FirstLane after root many lane) where
@@ -216,7 +220,7 @@ module _
             }
 
         -- no false root: so many places more hold, and the odometer goes on
-        pub goes-on : many ≤ lane → (many < 16 → limit ≤ tried + many) → length after ≡ 42784 → (step : Step) → NextIs last step
+        pub goes-on : many ≤ lane → (many < 16 → limit ≤ tried + many) → 16 * (42 + nodes) ≤ length after → (step : Step) → NextIs last step
             → Walking table nodes N P root o limit bs vals after (step .odometer) (tried + many)
         goes-on h ample l step n =
             let i = found .inside in

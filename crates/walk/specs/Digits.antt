@@ -57,7 +57,7 @@ pub record PlacesLaid (o : Odometer) (N : ℕ) (before after : List ℕ) (r : Od
   pub turning : Turning r
   pub same-sizes : r .sizes ≡ o .sizes
   pub same-count : r .count ≡ o .count
-  pub kept : (i : ℕ) → i < 42144 → getD after i 0 ≡ getD before i 0
+  pub kept : (i : ℕ) → i < 32 → getD after i 0 ≡ getD before i 0
   pub onward : (t : ℕ) → digitsOf o ≡ digitsAfter (sizesIn o) t → digitsOf r ≡ digitsAfter (sizesIn o) (t + 15)
   pub lanes : (t : ℕ) → digitsOf o ≡ digitsAfter (sizesIn o) t → (l : ℕ) → l < 16
       → LaneHolds N (o .count) (digitsAfter (sizesIn o) (t + l)) after l

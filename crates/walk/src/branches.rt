@@ -1,8 +1,9 @@
 // The table made ready for the walk: every node becomes a branch, a choice between two cells by whether two others are equal.
-// Cell k is node k; 2632 is false, 2633 true, and 2634 + v the value of digit v.
-ghost use Prim.Native.Nat.{_*_, _<_};
+// Cell 0 is false, 1 true, 2 + v the value of digit v, and 42 + k node k.
+ghost use Prim.Native.Nat.{_+_, _*_, _≤_, _<_};
 ghost use mathlib.Core.Path.{_≡_};
 ghost use lib.ListN.{length};
+ghost use Rattle.definitions.specs.Bytes.{twoAt};
 ghost use Rattle.definitions.specs.Problem.Node.{nodeAt};
 ghost use Rattle.ranges.specs.Table.{TableIn};
 ghost use Rattle.walk.specs.Cells.{one, where-true, branchOf, Decoded};
@@ -35,10 +36,18 @@ fn where_true(condition: usize, same: usize, apart: usize) -> Branch
 {
     Branch {
         left: condition,
-        right: 2633,
+        right: 1,
         same,
         apart,
     }
+}
+
+// The cell of the node whose number stands at a place of the table.
+fn cell_at(table: &[u8], at: usize) -> usize
+    requires { ⌜ at + 1 < length (now table) ⌝ }
+    ensures { λ r. ⌜ r ≡ 42 + twoAt (now (table .entry)) at ⌝ }
+{
+    42 + two_at(table, at)
 }
 
 fn branch_at(table: &[u8], nodes: usize, variables: usize, truths: usize, k: usize) -> Branch
@@ -48,30 +57,30 @@ fn branch_at(table: &[u8], nodes: usize, variables: usize, truths: usize, k: usi
     let at = 8 * k;
     let op = table[at];
     match op {
-        0 => itself(2634 + wide(table[at + 1])),
+        0 => itself(2 + wide(table[at + 1])),
         1 | 9 => where_true(
-            two_at(table, at + 2),
-            two_at(table, at + 4),
-            two_at(table, at + 6),
+            cell_at(table, at + 2),
+            cell_at(table, at + 4),
+            cell_at(table, at + 6),
         ),
         2 => Branch {
-            left: two_at(table, at + 2),
-            right: two_at(table, at + 4),
-            same: 2633,
-            apart: 2632,
+            left: cell_at(table, at + 2),
+            right: cell_at(table, at + 4),
+            same: 1,
+            apart: 0,
         },
-        3 => where_true(two_at(table, at + 2), 2632, 2633),
-        4 => where_true(two_at(table, at + 2), two_at(table, at + 4), 2632),
-        5 => where_true(two_at(table, at + 2), 2633, two_at(table, at + 4)),
-        6 => itself(2634 + (variables + wide(table[at + 1]))),
-        7 => itself(2633),
-        _ => itself(2632),
+        3 => where_true(cell_at(table, at + 2), 0, 1),
+        4 => where_true(cell_at(table, at + 2), cell_at(table, at + 4), 0),
+        5 => where_true(cell_at(table, at + 2), 1, cell_at(table, at + 4)),
+        6 => itself(2 + (variables + wide(table[at + 1]))),
+        7 => itself(1),
+        _ => itself(0),
     }
 }
 
 // For each branch the places where the lanes of its four cells begin.
 pub fn decode(table: &[u8], nodes: usize, variables: usize, truths: usize, branches: &mut [u16])
-    requires { ⌜ TableIn (now table) nodes variables truths × (length (now branches) ≡ 10528) ⌝ }
+    requires { ⌜ TableIn (now table) nodes variables truths × (4 * nodes ≤ length (now branches)) ⌝ }
     ensures { λ r. ⌜ Decoded (now (table .entry)) nodes variables (now (branches .exit)) nodes ⌝ }
 {
     let mut k = 0;

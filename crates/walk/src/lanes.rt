@@ -1,6 +1,6 @@
 // Sixteen places at once: the values of every node, in sixteen lanes that stand beside each other. A branch does the same in
 // every lane, with no jump, so that a processor does all sixteen in a few steps.
-ghost use Prim.Native.Nat.{_+_, _≤_, _<_};
+ghost use Prim.Native.Nat.{_+_, _*_, _≤_, _<_};
 ghost use mathlib.Core.Path.{_≡_};
 ghost use lib.ListN.{length};
 ghost use Rattle.walk.specs.Cells.{chosen, Ordered, Picked, LanesLaid, Solved, FirstLane, LaneCopied};
@@ -55,7 +55,7 @@ pub fn put_lanes(cells: &mut [u8], at: usize, lanes: [u8; 16])
 
 // The values of all nodes, from those of the digits.
 pub fn evaluate(branches: &[u16], nodes: usize, cells: &mut [u8])
-    requires { ⌜ (nodes ≤ 2632) × (length (now branches) ≡ 10528) × (length (now cells) ≡ 42784) × Ordered (now branches) nodes ⌝ }
+    requires { ⌜ (4 * nodes ≤ length (now branches)) × (16 * (42 + nodes) ≤ length (now cells)) × Ordered (now branches) nodes ⌝ }
     ensures { λ r. ⌜ Solved (now (branches .entry)) (now (cells .entry)) (now (cells .exit)) nodes ⌝ }
 {
     let mut k = 0;
@@ -67,19 +67,19 @@ pub fn evaluate(branches: &[u16], nodes: usize, cells: &mut [u8])
             number(branches[4 * k + 2]),
             number(branches[4 * k + 3]),
         );
-        put_lanes(cells, 16 * k, lanes);
+        put_lanes(cells, 16 * (42 + k), lanes);
         k += 1;
     }
 }
 
 // The first of so many lanes where the root is false, or as many as there are.
 pub fn first_false(cells: &[u8], root: usize, many: usize) -> usize
-    requires { ⌜ (root < 2632) × (many ≤ 16) × (length (now cells) ≡ 42784) ⌝ }
+    requires { ⌜ (16 * (42 + root) + 16 ≤ length (now cells)) × (many ≤ 16) ⌝ }
     ensures { λ r. ⌜ FirstLane (now (cells .entry)) root many r ⌝ }
 {
     let mut l = 0;
     while l < many {
-        if cells[16 * root + l] == 0 {
+        if cells[16 * (42 + root) + l] == 0 {
             return l;
         }
         l += 1;
@@ -89,12 +89,12 @@ pub fn first_false(cells: &[u8], root: usize, many: usize) -> usize
 
 // The values of the nodes in one lane.
 pub fn values_of(cells: &[u8], nodes: usize, lane: usize, values: &mut [u8])
-    requires { ⌜ (nodes ≤ 2632) × (lane < 16) × (length (now cells) ≡ 42784) × (length (now values) ≡ 2632) ⌝ }
+    requires { ⌜ (16 * (42 + nodes) ≤ length (now cells)) × (nodes ≤ length (now values)) × (lane < 16) ⌝ }
     ensures { λ r. ⌜ LaneCopied (now (cells .entry)) lane nodes (now (values .exit)) ⌝ }
 {
     let mut k = 0;
     while k < nodes {
-        values[k] = cells[16 * k + lane];
+        values[k] = cells[16 * (42 + k) + lane];
         k += 1;
     }
 }

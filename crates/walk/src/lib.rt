@@ -1,7 +1,7 @@
 // The walk: the places are evaluated in order, from place 1 on and sixteen at a time, until one is false or as many as allowed
 // are tried.
 ghost use mathlib.Core.Path.{_≡_};
-ghost use Prim.Native.Nat.{min};
+ghost use Prim.Native.Nat.{_+_, _*_, _≤_, min};
 ghost use lib.ListN.{length};
 ghost use Rattle.ranges.specs.Table.{TableIn};
 ghost use Rattle.walk.specs.Walked.{RootIn, Starts, WalkIs};
@@ -22,7 +22,8 @@ pub struct Walked {
     pub falsified: bool,
 }
 
-// At most limit places of the table are tried. Where the last is false, its values are left in values.
+// At most limit places of the table are tried. Where the last is false, its values are left in values. A small table is walked
+// in small arrays: to clear the large ones takes longer than most small jobs.
 pub fn walk(
     table: &[u8],
     nodes: usize,
@@ -36,21 +37,68 @@ pub fn walk(
     requires { ⌜ TableIn (now table) nodes variables truths × RootIn (now table) nodes root × Starts variables truths start × (length (now values) ≡ 2632) ⌝ }
     ensures { λ r. ⌜ WalkIs (now (table .entry)) nodes variables truths root start limit (now (values .exit)) r ⌝ }
 {
+    if nodes <= 86 {
+        let mut branches = [0u16; 344];
+        let mut cells = [0u8; 2048];
+        return walk_in(
+            table,
+            nodes,
+            variables,
+            truths,
+            root,
+            start,
+            limit,
+            &mut branches,
+            &mut cells,
+            values,
+        );
+    }
     let mut branches = [0u16; 10528];
-    decode(table, nodes, variables, truths, &mut branches);
     let mut cells = [0u8; 42784];
-    put_lanes(&mut cells, 42128, [1; 16]);
+    walk_in(
+        table,
+        nodes,
+        variables,
+        truths,
+        root,
+        start,
+        limit,
+        &mut branches,
+        &mut cells,
+        values,
+    )
+}
+
+// The walk, in arrays that have room for the table.
+fn walk_in(
+    table: &[u8],
+    nodes: usize,
+    variables: usize,
+    truths: usize,
+    root: usize,
+    start: Odometer,
+    limit: u64,
+    branches: &mut [u16],
+    cells: &mut [u8],
+    values: &mut [u8],
+) -> Walked
+    requires { ⌜ TableIn (now table) nodes variables truths × RootIn (now table) nodes root × Starts variables truths start × (4 * nodes ≤ length (now branches)) × (16 * (42 + nodes) ≤ length (now cells)) × (length (now values) ≡ 2632) ⌝ }
+    ensures { λ r. ⌜ WalkIs (now (table .entry)) nodes variables truths root start limit (now (values .exit)) r ⌝ }
+{
+    decode(table, nodes, variables, truths, branches);
+    put_lanes(cells, 0, [0; 16]);
+    put_lanes(cells, 16, [1; 16]);
     let mut odometer = start;
     let mut tried = 0u64;
     while tried < limit {
-        let last = odometer.lay(variables, &mut cells);
+        let last = odometer.lay(variables, cells);
         let step = last.next();
         odometer = step.odometer;
-        evaluate(&branches, nodes, &mut cells);
+        evaluate(branches, nodes, cells);
         let many = lanes_in(limit - tried);
-        let lane = first_false(&cells, root, many);
+        let lane = first_false(cells, root, many);
         if lane < many {
-            values_of(&cells, nodes, lane, values);
+            values_of(cells, nodes, lane, values);
             return Walked {
                 tried: tried + lane as u64 + 1,
                 falsified: true,

@@ -37,19 +37,19 @@ fn advance(digits: &mut [u8], sizes: &[u8], count: usize) -> bool
 
 // The values of the digits from one up to another go to a lane: the least value is a variable's 1, a truth variable's 0.
 fn fill(cells: &mut [u8], digits: &[u8], from: usize, to: usize, least: u8, lane: usize)
-    requires { ⌜ (to ≤ 40) × (lane < 16) × (length (now digits) ≡ 40) × (length (now cells) ≡ 42784) × ((v : ℕ) → getD (now digits) v 0 + least < 256) ⌝ }
+    requires { ⌜ (to ≤ 40) × (lane < 16) × (length (now digits) ≡ 40) × (672 ≤ length (now cells)) × ((v : ℕ) → getD (now digits) v 0 + least < 256) ⌝ }
     ensures { λ r. ⌜ Filled (now (digits .entry)) from to least lane (now (cells .entry)) (now (cells .exit)) ⌝ }
 {
     let mut v = from;
     while v < to {
-        cells[16 * (2634 + v) + lane] = digits[v] + least;
+        cells[16 * (2 + v) + lane] = digits[v] + least;
         v += 1;
     }
 }
 
 // A place goes to a lane.
 fn put_place(cells: &mut [u8], digits: &[u8], variables: usize, count: usize, lane: usize)
-    requires { ⌜ (variables ≤ count) × (count ≤ 40) × (lane < 16) × (length (now digits) ≡ 40) × (length (now cells) ≡ 42784) × ((v : ℕ) → getD (now digits) v 0 + 1 < 256) ⌝ }
+    requires { ⌜ (variables ≤ count) × (count ≤ 40) × (lane < 16) × (length (now digits) ≡ 40) × (672 ≤ length (now cells)) × ((v : ℕ) → getD (now digits) v 0 + 1 < 256) ⌝ }
     ensures { λ r. ⌜ PlacePut (now (digits .entry)) variables count lane (now (cells .entry)) (now (cells .exit)) ⌝ }
 {
     fill(cells, digits, 0, variables, 1, lane);
@@ -78,7 +78,7 @@ impl Odometer {
 
     // This place and the fifteen after it go to the lanes; the odometer stands at the last of them.
     pub fn lay(self, variables: usize, cells: &mut [u8]) -> Odometer
-        requires { ⌜ Turning self × (variables ≤ self .count) × (length (now cells) ≡ 42784) ⌝ }
+        requires { ⌜ Turning self × (variables ≤ self .count) × (672 ≤ length (now cells)) ⌝ }
         ensures { λ r. ⌜ PlacesLaid self variables (now (cells .entry)) (now (cells .exit)) r ⌝ }
     {
         let count = self.count;

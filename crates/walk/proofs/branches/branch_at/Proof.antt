@@ -28,74 +28,74 @@ add-itself c = search needs
 itself-requires : tie.Need-itself-requires
 itself-requires c κs = search needs
 
-add-two-at : tie.Need-add-two-at
-add-two-at c = search needs
+add-cell-at : tie.Need-add-cell-at
+add-cell-at c = search needs
 
-two-at-requires : tie.Need-two-at-requires
-two-at-requires c κs = search needs
+cell-at-requires : tie.Need-cell-at-requires
+cell-at-requires c κs = search needs
 
-add-two-at-2 : tie.Need-add-two-at-2
-add-two-at-2 c = search needs
+add-cell-at-2 : tie.Need-add-cell-at-2
+add-cell-at-2 c = search needs
 
-two-at-requires-2 : tie.Need-two-at-requires-2
-two-at-requires-2 c κs = search needs
+cell-at-requires-2 : tie.Need-cell-at-requires-2
+cell-at-requires-2 c κs = search needs
 
-add-two-at-3 : tie.Need-add-two-at-3
-add-two-at-3 c = search needs
+add-cell-at-3 : tie.Need-add-cell-at-3
+add-cell-at-3 c = search needs
 
-two-at-requires-3 : tie.Need-two-at-requires-3
-two-at-requires-3 c κs = search needs
+cell-at-requires-3 : tie.Need-cell-at-requires-3
+cell-at-requires-3 c κs = search needs
 
 where-true-requires : tie.Need-where-true-requires
 where-true-requires c κs = search needs
 
-add-two-at-4 : tie.Need-add-two-at-4
-add-two-at-4 c = search needs
+add-cell-at-4 : tie.Need-add-cell-at-4
+add-cell-at-4 c = search needs
 
-two-at-requires-4 : tie.Need-two-at-requires-4
-two-at-requires-4 c κs = search needs
+cell-at-requires-4 : tie.Need-cell-at-requires-4
+cell-at-requires-4 c κs = search needs
 
-add-two-at-5 : tie.Need-add-two-at-5
-add-two-at-5 c = search needs
+add-cell-at-5 : tie.Need-add-cell-at-5
+add-cell-at-5 c = search needs
 
-two-at-requires-5 : tie.Need-two-at-requires-5
-two-at-requires-5 c κs = search needs
+cell-at-requires-5 : tie.Need-cell-at-requires-5
+cell-at-requires-5 c κs = search needs
 
-add-two-at-6 : tie.Need-add-two-at-6
-add-two-at-6 c = search needs
+add-cell-at-6 : tie.Need-add-cell-at-6
+add-cell-at-6 c = search needs
 
-two-at-requires-6 : tie.Need-two-at-requires-6
-two-at-requires-6 c κs = search needs
+cell-at-requires-6 : tie.Need-cell-at-requires-6
+cell-at-requires-6 c κs = search needs
 
 where-true-requires-2 : tie.Need-where-true-requires-2
 where-true-requires-2 c κs = search needs
 
-add-two-at-7 : tie.Need-add-two-at-7
-add-two-at-7 c = search needs
+add-cell-at-7 : tie.Need-add-cell-at-7
+add-cell-at-7 c = search needs
 
-two-at-requires-7 : tie.Need-two-at-requires-7
-two-at-requires-7 c κs = search needs
+cell-at-requires-7 : tie.Need-cell-at-requires-7
+cell-at-requires-7 c κs = search needs
 
-add-two-at-8 : tie.Need-add-two-at-8
-add-two-at-8 c = search needs
+add-cell-at-8 : tie.Need-add-cell-at-8
+add-cell-at-8 c = search needs
 
-two-at-requires-8 : tie.Need-two-at-requires-8
-two-at-requires-8 c κs = search needs
+cell-at-requires-8 : tie.Need-cell-at-requires-8
+cell-at-requires-8 c κs = search needs
 
 where-true-requires-3 : tie.Need-where-true-requires-3
 where-true-requires-3 c κs = search needs
 
-add-two-at-9 : tie.Need-add-two-at-9
-add-two-at-9 c = search needs
+add-cell-at-9 : tie.Need-add-cell-at-9
+add-cell-at-9 c = search needs
 
-two-at-requires-9 : tie.Need-two-at-requires-9
-two-at-requires-9 c κs = search needs
+cell-at-requires-9 : tie.Need-cell-at-requires-9
+cell-at-requires-9 c κs = search needs
 
-add-two-at-10 : tie.Need-add-two-at-10
-add-two-at-10 c = search needs
+add-cell-at-10 : tie.Need-add-cell-at-10
+add-cell-at-10 c = search needs
 
-two-at-requires-10 : tie.Need-two-at-requires-10
-two-at-requires-10 c κs = search needs
+cell-at-requires-10 : tie.Need-cell-at-requires-10
+cell-at-requires-10 c κs = search needs
 
 where-true-requires-4 : tie.Need-where-true-requires-4
 where-true-requires-4 c κs = search needs
@@ -134,35 +134,35 @@ returns-2 : tie.Need-returns-2
 returns-2 c =
     let s = c .before .before .before .before .before .before .before in
     c .where-true .ensures
-    ∙ as-choice (s .args .table .now) (s .args .variables) (8 * s .args .k) (c .before .before .before .two-at .result) (c .before .before .two-at2 .result) (c .before .two-at3 .result)
-    (c .before .before .before .two-at .ensures .0) (c .before .before .two-at2 .ensures .0) (c .before .two-at3 .ensures .0)
+    ∙ as-choice (s .args .table .now) (s .args .variables) (8 * s .args .k) (c .before .before .before .cell-at .result) (c .before .before .cell-at2 .result) (c .before .cell-at3 .result)
+    (c .before .before .before .cell-at .ensures) (c .before .before .cell-at2 .ensures) (c .before .cell-at3 .ensures)
     (c .before .before .before .before .match .keys2)
 
 returns-3 : tie.Need-returns-3
 returns-3 c =
     let s = c .before .before .before .before .before in
-    as-equal (s .args .table .now) (s .args .variables) (8 * s .args .k) (c .before .two-at4 .result) (c .two-at5 .result) (c .before .two-at4 .ensures .0) (c .two-at5 .ensures .0)
+    as-equal (s .args .table .now) (s .args .variables) (8 * s .args .k) (c .before .cell-at4 .result) (c .cell-at5 .result) (c .before .cell-at4 .ensures) (c .cell-at5 .ensures)
     (c .before .before .match .keys3)
 
 returns-4 : tie.Need-returns-4
 returns-4 c =
     let s = c .before .before .before .before .before in
     c .where-true2 .ensures
-    ∙ as-not (s .args .table .now) (s .args .variables) (8 * s .args .k) (c .before .two-at6 .result) (c .before .two-at6 .ensures .0) (c .before .before .match .keys4)
+    ∙ as-not (s .args .table .now) (s .args .variables) (8 * s .args .k) (c .before .cell-at6 .result) (c .before .cell-at6 .ensures) (c .before .before .match .keys4)
 
 returns-5 : tie.Need-returns-5
 returns-5 c =
     let s = c .before .before .before .before .before .before in
     c .where-true3 .ensures
-    ∙ as-and (s .args .table .now) (s .args .variables) (8 * s .args .k) (c .before .before .two-at7 .result) (c .before .two-at8 .result) (c .before .before .two-at7 .ensures .0)
-    (c .before .two-at8 .ensures .0) (c .before .before .before .match .keys5)
+    ∙ as-and (s .args .table .now) (s .args .variables) (8 * s .args .k) (c .before .before .cell-at7 .result) (c .before .cell-at8 .result) (c .before .before .cell-at7 .ensures)
+    (c .before .cell-at8 .ensures) (c .before .before .before .match .keys5)
 
 returns-6 : tie.Need-returns-6
 returns-6 c =
     let s = c .before .before .before .before .before .before in
     c .where-true4 .ensures
-    ∙ as-or (s .args .table .now) (s .args .variables) (8 * s .args .k) (c .before .before .two-at9 .result) (c .before .two-at10 .result) (c .before .before .two-at9 .ensures .0)
-    (c .before .two-at10 .ensures .0) (c .before .before .before .match .keys6)
+    ∙ as-or (s .args .table .now) (s .args .variables) (8 * s .args .k) (c .before .before .cell-at9 .result) (c .before .cell-at10 .result) (c .before .before .cell-at9 .ensures)
+    (c .before .cell-at10 .ensures) (c .before .before .before .match .keys6)
 
 returns-7 : tie.Need-returns-7
 returns-7 c =
@@ -194,29 +194,29 @@ branch-at-spec =
     wide-requires
     add-itself
     itself-requires
-    add-two-at
-    two-at-requires
-    add-two-at-2
-    two-at-requires-2
-    add-two-at-3
-    two-at-requires-3
+    add-cell-at
+    cell-at-requires
+    add-cell-at-2
+    cell-at-requires-2
+    add-cell-at-3
+    cell-at-requires-3
     where-true-requires
-    add-two-at-4
-    two-at-requires-4
-    add-two-at-5
-    two-at-requires-5
-    add-two-at-6
-    two-at-requires-6
+    add-cell-at-4
+    cell-at-requires-4
+    add-cell-at-5
+    cell-at-requires-5
+    add-cell-at-6
+    cell-at-requires-6
     where-true-requires-2
-    add-two-at-7
-    two-at-requires-7
-    add-two-at-8
-    two-at-requires-8
+    add-cell-at-7
+    cell-at-requires-7
+    add-cell-at-8
+    cell-at-requires-8
     where-true-requires-3
-    add-two-at-9
-    two-at-requires-9
-    add-two-at-10
-    two-at-requires-10
+    add-cell-at-9
+    cell-at-requires-9
+    add-cell-at-10
+    cell-at-requires-10
     where-true-requires-4
     add-wide-2
     shared-slice-read-wide-2

@@ -2,7 +2,7 @@
 -- many nodes are left. Assumes nothing.
 use native.Mathlib.Omega.{arith}
 use borrow.Author.Count.{below-none}
-use mathlib.Core.Path.{_≡_, sym, _∙_, subst}
+use mathlib.Core.Path.{_≡_, refl, _∙_, subst}
 use Prim.Native.Nat.{_-_, _≤_}
 use lib.ListN.{length, length-set}
 use Rattle.ranges.specs.Table.{TableIn}
@@ -13,14 +13,14 @@ use Rattle.walk.proofs.branches.decode.Tie as tie
 
 abbrev Inv-loop : tie.InvT-loop
 Inv-loop table nodes variables truths branches₀ k₀ branches k =
-    TableIn table nodes variables truths × (k ≤ nodes) × (length branches ≡ 10528) × Decoded table nodes variables branches k
+    TableIn table nodes variables truths × (k ≤ nodes) × (length branches ≡ length branches₀) × Decoded table nodes variables branches k
 
 abbrev μ-loop : tie.MeasureT-loop
 μ-loop table nodes variables truths branches₀ k₀ branches k = nodes - k
 
 loop-holds : tie.Need-loop-holds Inv-loop μ-loop
 loop-holds c =
-    let s = c .before .before in (s .pre .0, omega arith, s .pre .1, record { stored = below-none _ })
+    let s = c .before .before in (s .pre .0, omega arith, refl, record { stored = below-none _ })
 
 branch-at-requires : tie.Need-branch-at-requires Inv-loop μ-loop
 branch-at-requires c κs = let v = c .before .loop .inv in (v .0, c .loop-test .taken)
@@ -42,13 +42,13 @@ cast-branches c =
     omega arith
 
 mul-branches-2 : tie.Need-mul-branches-2 Inv-loop μ-loop
-mul-branches-2 c = let few = c .before .before .before .loop .inv .0 .few-nodes in omega arith
+mul-branches-2 c = omega arith
 
 mul-branches-3 : tie.Need-mul-branches-3 Inv-loop μ-loop
-mul-branches-3 c = let few = c .before .before .before .loop .inv .0 .few-nodes in omega arith
+mul-branches-3 c = omega arith
 
 slice-write-branches : tie.Need-slice-write-branches Inv-loop μ-loop
-slice-write-branches c = let few = c .before .before .before .loop .inv .0 .few-nodes in omega arith
+slice-write-branches c = omega arith
 
 mul-branches-4 : tie.Need-mul-branches-4 Inv-loop μ-loop
 mul-branches-4 c =
@@ -67,18 +67,16 @@ cast-branches-2 c =
     omega arith
 
 mul-branches-5 : tie.Need-mul-branches-5 Inv-loop μ-loop
-mul-branches-5 c = let few = c .before .before .before .before .loop .inv .0 .few-nodes in omega arith
+mul-branches-5 c = omega arith
 
 add-branches : tie.Need-add-branches Inv-loop μ-loop
-add-branches c = let few = c .before .before .before .before .loop .inv .0 .few-nodes in omega arith
+add-branches c = omega arith
 
 mul-branches-6 : tie.Need-mul-branches-6 Inv-loop μ-loop
-mul-branches-6 c = let few = c .before .before .before .before .loop .inv .0 .few-nodes in omega arith
+mul-branches-6 c = omega arith
 
 slice-write-branches-2 : tie.Need-slice-write-branches-2 Inv-loop μ-loop
-slice-write-branches-2 c =
-    let few = c .before .before .before .before .loop .inv .0 .few-nodes in
-    simp length-set (omega arith)
+slice-write-branches-2 c = simp length-set (omega arith)
 
 mul-branches-7 : tie.Need-mul-branches-7 Inv-loop μ-loop
 mul-branches-7 c =
@@ -97,18 +95,16 @@ cast-branches-3 c =
     omega arith
 
 mul-branches-8 : tie.Need-mul-branches-8 Inv-loop μ-loop
-mul-branches-8 c = let few = c .before .before .before .before .before .loop .inv .0 .few-nodes in omega arith
+mul-branches-8 c = omega arith
 
 add-branches-2 : tie.Need-add-branches-2 Inv-loop μ-loop
-add-branches-2 c = let few = c .before .before .before .before .before .loop .inv .0 .few-nodes in omega arith
+add-branches-2 c = omega arith
 
 mul-branches-9 : tie.Need-mul-branches-9 Inv-loop μ-loop
-mul-branches-9 c = let few = c .before .before .before .before .before .loop .inv .0 .few-nodes in omega arith
+mul-branches-9 c = omega arith
 
 slice-write-branches-3 : tie.Need-slice-write-branches-3 Inv-loop μ-loop
-slice-write-branches-3 c =
-    let few = c .before .before .before .before .before .loop .inv .0 .few-nodes in
-    simp length-set (omega arith)
+slice-write-branches-3 c = simp length-set (omega arith)
 
 mul-branches-10 : tie.Need-mul-branches-10 Inv-loop μ-loop
 mul-branches-10 c =
@@ -127,21 +123,19 @@ cast-branches-4 c =
     omega arith
 
 mul-branches-11 : tie.Need-mul-branches-11 Inv-loop μ-loop
-mul-branches-11 c = let few = c .before .before .before .before .before .before .loop .inv .0 .few-nodes in omega arith
+mul-branches-11 c = omega arith
 
 add-branches-3 : tie.Need-add-branches-3 Inv-loop μ-loop
-add-branches-3 c = let few = c .before .before .before .before .before .before .loop .inv .0 .few-nodes in omega arith
+add-branches-3 c = omega arith
 
 mul-branches-12 : tie.Need-mul-branches-12 Inv-loop μ-loop
-mul-branches-12 c = let few = c .before .before .before .before .before .before .loop .inv .0 .few-nodes in omega arith
+mul-branches-12 c = omega arith
 
 slice-write-branches-4 : tie.Need-slice-write-branches-4 Inv-loop μ-loop
-slice-write-branches-4 c =
-    let few = c .before .before .before .before .before .before .loop .inv .0 .few-nodes in
-    simp length-set (omega arith)
+slice-write-branches-4 c = simp length-set (omega arith)
 
 add-k : tie.Need-add-k Inv-loop μ-loop
-add-k c = let few = c .before .before .before .before .before .before .loop .inv .0 .few-nodes in omega arith
+add-k c = omega arith
 
 loop-less : tie.Need-loop-less Inv-loop μ-loop
 loop-less c = omega arith
@@ -156,11 +150,11 @@ loop-again c =
       omega arith,
       length-laid (l .branches) (l .k) (b .result) ∙ v .2,
       decoded-more (s .args .table .now) (s .args .nodes) (s .args .variables) (s .args .truths) (v .0) (l .k) (omega arith) (b .result) (b .ensures)
-          (l .branches) (v .2) (v .3),
+          (l .branches) (omega arith) (v .3),
     )
 
 same-length : tie.Need-same-length Inv-loop μ-loop
-same-length c = c .before .loop .inv .2 ∙ sym (c .before .before .before .before .pre .1)
+same-length c = c .before .loop .inv .2
 
 returns : tie.Need-returns Inv-loop μ-loop
 returns c =

@@ -11,13 +11,13 @@ use Rattle.walk.proofs.lanes.evaluate.Statement.{statement}
 use Rattle.walk.proofs.lanes.evaluate.Tie as tie
 
 abbrev Inv-loop : tie.InvT-loop
-Inv-loop branches nodes cells₀ k₀ cells k = (k ≤ nodes) × (length cells ≡ 42784) × Solved branches cells₀ cells k
+Inv-loop branches nodes cells₀ k₀ cells k = (k ≤ nodes) × (length cells ≡ length cells₀) × Solved branches cells₀ cells k
 
 abbrev μ-loop : tie.MeasureT-loop
 μ-loop branches nodes cells₀ k₀ cells k = nodes - k
 
 loop-holds : tie.Need-loop-holds Inv-loop μ-loop
-loop-holds c = (omega arith, c .before .before .pre .2, record { solves = λ j l h. absurd (omega arith); kept = λ i h. refl })
+loop-holds c = (omega arith, refl, record { solves = λ j l h. absurd (omega arith); kept = λ i h. refl })
 
 mul-number : tie.Need-mul-number Inv-loop μ-loop
 mul-number c = omega arith
@@ -80,13 +80,18 @@ pick-requires : tie.Need-pick-requires Inv-loop μ-loop
 pick-requires c κs =
     let s = c .before .before .before .before .before .before .before .before .before .before .before .before .before in
     let l = c .before .before .before .before .before .before .before .before .before .before .loop in
-    let few = s .pre .0 in
-    let r = s .pre .3 (l .k) (omega arith) in (
-      room (l .k) _ _ (l .cells) (omega arith) (l .inv .1) (r .left) (c .before .before .before .before .before .before .number .ensures),
-      room (l .k) _ _ (l .cells) (omega arith) (l .inv .1) (r .right) (c .before .before .before .before .number2 .ensures),
-      room (l .k) _ _ (l .cells) (omega arith) (l .inv .1) (r .same) (c .before .before .number3 .ensures),
-      room (l .k) _ _ (l .cells) (omega arith) (l .inv .1) (r .apart) (c .number4 .ensures),
+    let fits = s .pre .1 in
+    let same = l .inv .1 in
+    let long : 16 * (42 + s .args .nodes) ≤ length (l .cells) = omega arith in
+    let r = s .pre .2 (l .k) (omega arith) in (
+      room (l .k) _ _ (s .args .nodes) (l .cells) (omega arith) long (r .left) (c .before .before .before .before .before .before .number .ensures),
+      room (l .k) _ _ (s .args .nodes) (l .cells) (omega arith) long (r .right) (c .before .before .before .before .number2 .ensures),
+      room (l .k) _ _ (s .args .nodes) (l .cells) (omega arith) long (r .same) (c .before .before .number3 .ensures),
+      room (l .k) _ _ (s .args .nodes) (l .cells) (omega arith) long (r .apart) (c .number4 .ensures),
     )
+
+add-put-lanes : tie.Need-add-put-lanes Inv-loop μ-loop
+add-put-lanes c = omega arith
 
 mul-put-lanes : tie.Need-mul-put-lanes Inv-loop μ-loop
 mul-put-lanes c = omega arith
@@ -95,9 +100,9 @@ put-lanes-requires : tie.Need-put-lanes-requires Inv-loop μ-loop
 put-lanes-requires c κs =
     let s = c .before .before .before .before .before .before .before .before .before .before .before .before .before .before .before in
     let l = c .before .before .before .before .before .before .before .before .before .before .before .before .loop in
-    let few = s .pre .0 in
+    let fits = s .pre .1 in
     let long = l .inv .1 in
-    let room : 16 * l .k + 16 ≤ length (l .cells) = omega arith in
+    let room : 16 * (42 + l .k) + 16 ≤ length (l .cells) = omega arith in
     (room, c .before .pick .ensures .long)
 
 add-k : tie.Need-add-k Inv-loop μ-loop
@@ -110,15 +115,15 @@ loop-again : tie.Need-loop-again Inv-loop μ-loop
 loop-again c =
     let s = c .before .before .before .before .before .before .before .before .before .before .before .before .before .before .before .before .before .before in
     let l = c .before .before .before .before .before .before .before .before .before .before .before .before .before .before .before .loop in
-    let few = s .pre .0 in
+    let fits = s .pre .1 in
     let picked = picked-equal (l .cells) (c .before .before .before .before .pick .result) _ _ _ _ _ _ _ _ (c .before .before .before .before .before .before .before .before .before .before .before .number .ensures) (c .before .before .before .before .before .before .before .before .before .number2 .ensures) (c .before .before .before .before .before .before .before .number3 .ensures) (c .before .before .before .before .before .number4 .ensures) (c .before .before .before .before .pick .ensures) in (
       omega arith,
       c .before .before .put-lanes .kept .0 ∙ l .inv .1,
-      solves-more (s .args .branches .now) (l .cells) (c .before .before .before .before .pick .result) (c .before .before .put-lanes .last .0) (l .k) (omega arith) (c .before .before .put-lanes .ensures) (s .args .cells .now) (λ j h. s .pre .3 j (omega arith)) picked (l .inv .2),
+      solves-more (s .args .branches .now) (l .cells) (c .before .before .before .before .pick .result) (c .before .before .put-lanes .last .0) (l .k) (c .before .before .put-lanes .ensures) (s .args .cells .now) (λ j h. s .pre .2 j (omega arith)) picked (l .inv .2),
     )
 
 same-length : tie.Need-same-length Inv-loop μ-loop
-same-length c = c .before .loop .inv .1 ∙ sym (c .before .before .before .before .pre .2)
+same-length c = c .before .loop .inv .1
 
 returns : tie.Need-returns Inv-loop μ-loop
 returns c =
@@ -153,6 +158,7 @@ evaluate-spec =
     shared-slice-read-number-4
     number-requires-4
     pick-requires
+    add-put-lanes
     mul-put-lanes
     put-lanes-requires
     add-k

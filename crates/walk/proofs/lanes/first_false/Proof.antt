@@ -2,14 +2,14 @@
 -- Assumes nothing.
 use native.Mathlib.Omega.{arith}
 use mathlib.Core.Path.{_≡_}
-use Prim.Native.Nat.{ℕ, _-_, _≤_, _<_}
+use Prim.Native.Nat.{ℕ, _+_, _-_, _≤_, _<_}
 use borrow.Author.Count.{below-more}
 use Rattle.walk.specs.Cells.{cell}
 use Rattle.walk.proofs.lanes.first_false.Statement.{statement}
 use Rattle.walk.proofs.lanes.first_false.Tie as tie
 
 abbrev Inv-loop : tie.InvT-loop
-Inv-loop cells root many l₀ l = (l ≤ many) × ((k : ℕ) → k < l → cell cells root k ≡ 0 → ⊥)
+Inv-loop cells root many l₀ l = (l ≤ many) × ((k : ℕ) → k < l → cell cells (42 + root) k ≡ 0 → ⊥)
 
 abbrev μ-loop : tie.MeasureT-loop
 μ-loop cells root many l₀ l = many - l
@@ -17,11 +17,14 @@ abbrev μ-loop : tie.MeasureT-loop
 loop-holds : tie.Need-loop-holds Inv-loop μ-loop
 loop-holds c = (omega arith, λ k h. absurd (omega arith))
 
+add-if1 : tie.Need-add-if1 Inv-loop μ-loop
+add-if1 c = omega arith
+
 mul-if1 : tie.Need-mul-if1 Inv-loop μ-loop
 mul-if1 c = omega arith
 
-add-if1 : tie.Need-add-if1 Inv-loop μ-loop
-add-if1 c = omega arith
+add-if1-2 : tie.Need-add-if1-2 Inv-loop μ-loop
+add-if1-2 c = omega arith
 
 shared-slice-read-if1 : tie.Need-shared-slice-read-if1 Inv-loop μ-loop
 shared-slice-read-if1 c = omega arith
@@ -48,8 +51,9 @@ first-false-spec =
     Inv-loop
     μ-loop
     loop-holds
-    mul-if1
     add-if1
+    mul-if1
+    add-if1-2
     shared-slice-read-if1
     returns
     add-l

@@ -33,7 +33,7 @@ add-cells-3 : tie.Need-add-cells-3 Inv-loop μ-loop
 add-cells-3 c = search needs
 
 slice-write-cells : tie.Need-slice-write-cells Inv-loop μ-loop
-slice-write-cells c = let l = c .before .before .loop .inv .long in omega arith
+slice-write-cells c = let l = c .before .before .loop .inv .long in let room = c .before .before .loop .inv .room in omega arith
 
 add-v : tie.Need-add-v Inv-loop μ-loop
 add-v c = search needs
@@ -45,7 +45,7 @@ loop-again : tie.Need-loop-again Inv-loop μ-loop
 loop-again c = filling-more _ _ _ _ _ _ _ _ (c .before .before .loop .inv) (omega arith) (omega arith) (omega arith)
 
 same-length : tie.Need-same-length Inv-loop μ-loop
-same-length c = c .before .loop .inv .long ∙ sym (c .before .before .pre .3)
+same-length c = c .before .loop .inv .long
 
 returns : tie.Need-returns Inv-loop μ-loop
 returns c = filling-ends _ _ _ _ _ _ _ _ (c .before .loop .inv) (omega arith)

@@ -13,7 +13,7 @@ fill-requires-2 : tie.Need-fill-requires-2
 fill-requires-2 c κs =
     let f = c .before .before .before .fill in
     let s = c .before .before .before .before .before .before .before in
-    (s .pre .1, s .pre .2, s .pre .3, f .kept .0 ∙ s .pre .4, λ w. omega (arith, s .pre .5 w))
+    (s .pre .1, s .pre .2, s .pre .3, (let l = f .kept .0 in let room = s .pre .4 in omega arith), λ w. omega (arith, s .pre .5 w))
 
 same-length : tie.Need-same-length
 same-length c = search needs

@@ -24,7 +24,7 @@ slice-aggregate-put-place c = search (needs, c .before .before .before .loop .in
 put-place-requires : tie.Need-put-place-requires Inv-loop μ-loop
 put-place-requires c κs =
     let v = c .before .before .before .loop .inv in
-    (v .few, v .turning .few, omega arith, v .turning .digits-long, v .long, digit-small _ (v .turning))
+    (v .few, v .turning .few, omega arith, v .turning .digits-long, (let l = v .long in let room = v .room in omega arith), digit-small _ (v .turning))
 
 slice-aggregate-advance : tie.Need-slice-aggregate-advance Inv-loop μ-loop
 slice-aggregate-advance c = search (needs, c .before .before .before .before .before .before .before .loop .inv .turning .digits-long)
@@ -55,13 +55,13 @@ slice-aggregate-put-place-2 c = search (needs, c .before .before .before .loop .
 put-place-requires-2 : tie.Need-put-place-requires-2 Inv-loop μ-loop
 put-place-requires-2 c κs =
     let v = c .before .before .before .loop .inv in
-    (v .few, v .turning .few, omega arith, v .turning .digits-long, v .long, digit-small _ (v .turning))
+    (v .few, v .turning .few, omega arith, v .turning .digits-long, (let l = v .long in let room = v .room in omega arith), digit-small _ (v .turning))
 
 same-length : tie.Need-same-length Inv-loop μ-loop
 same-length c =
     let p = c .before .before .put-place2 in
     let l = c .before .before .before .before .before .before .loop in
-    p .kept .0 ∙ l .inv .long ∙ sym (c .before .before .before .before .before .before .before .before .before .before .pre .2)
+    p .kept .0 ∙ l .inv .long
 
 returns : tie.Need-returns Inv-loop μ-loop
 returns c =
