@@ -8,7 +8,7 @@ use mathlib.Core.List.{List, [], _∷_, _++_, map, reverse, reverseAux, append-n
 use mathlib.Core.Logic.{_⊎_, inl, inr}
 use mathlib.Core.Option.{none}
 use lib.ListN.{length, getD, take, drop, length-map, length-take, length-reverse, length-replicate, List·getD-eq-default}
-use lib.Seq.{getD-take, take-all, length-take-le, drop-drop}
+use lib.Seq.{getD-take, length-take-le, drop-drop}
 use lib.Dec.{ltb}
 use borrow.Rule.Slice.PartMut.{midOf, putMid}
 use borrow.Author.Tests.{lt-ltb, le-ltb}
@@ -29,13 +29,10 @@ use Rattle.theorems.proofs.Elimination.WellLaid.{AppPlaced, AllPlaced, apps-pla
 use Rattle.elimination.specs.State.{stateAt, noApp, appAt, LaidAt, three}
 use Rattle.elimination.specs.declared.laid.Laid.{Laid}
 use Rattle.elimination.proofs.Laying.{tail-whole, nothing-after}
+use Rattle.elimination.proofs.Operands.{map-at}
+use Rattle.elimination.proofs.Promising.{whole-state}
 use Rattle.elimination.proofs.Prefix.{nodes-length, apps-few, state-short}
 use Rattle.decision.specs.Rows.{rowOf5, noRow, ValuesOf}
-
-map-at : {A B : Type 0} (f : A → B) (xs : List A) (j : ℕ) (d : A) (e : B) → j < length xs → getD (map f xs) j e ≡ f (getD xs j d)
-map-at f [] j d e h = absurd (omega arith)
-map-at f (x ∷ xs) zero d e h = refl
-map-at f (x ∷ xs) (suc j) d e h = map-at f xs j d e (omega arith)
 
 three-at : (xs : List ℕ) (j : ℕ) → j < 3 → getD (three xs) j 0 ≡ getD xs j 0
 three-at xs zero h = refl
@@ -83,7 +80,8 @@ module _ (s : List ℕ) (ok : Accepted s) where
 
   -- after all nodes, the elimination is done
   pub whole : stateAt s (nodeCount s) ≡ F
-  whole = ap (steps symbols begin) (take-all (nodeCount s) T (let l = nodes-length s ok in omega arith))
+  unfolding eliminated
+  whole = whole-state s ok
 
   placed-at : (apps : List App) → AllPlaced symbols T (ok .nodes-right) apps → (i : ℕ) → i < length apps
       → AppPlaced symbols T (ok .nodes-right) (getD apps i noApp)

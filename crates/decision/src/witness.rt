@@ -56,6 +56,14 @@ fn argument(values: &[u8], used: bool, image: usize) -> u8
     0
 }
 
+// The value of the node whose number stands at a place.
+fn value_at(numbers: &[u16], k: usize, values: &[u8]) -> u8
+    requires { ⌜ (k < length (now numbers)) × (getD (now numbers) k 0 < length (now values)) ⌝ }
+    ensures { λ r. ⌜ r ≡ getD (now (values .entry)) (getD (now (numbers .entry)) k 0) 0 ⌝ }
+{
+    values[number(numbers[k])]
+}
+
 // Row i: the symbol, the values of the arguments' images, the value of the application's image.
 fn write_row(
     problem: &[u8],
@@ -78,8 +86,7 @@ fn write_row(
     let x = argument(values, 0 < arity, xs[0]);
     let y = argument(values, 1 < arity, xs[1]);
     let z = argument(values, 2 < arity, xs[2]);
-    let image = number(images[q]);
-    let value = values[image];
+    let value = value_at(&all.images, q, values);
     let at = 6 + 5 * i;
     put_row(&mut witness[at..], symbol, x, y, z, value);
 }

@@ -40,10 +40,10 @@ used-among : (o : Option (List Sort)) (j : ℕ) (x : Sort) → sortWanted o j �
 used-among none j x e = absurd (none≢some e)
 used-among (some ss) j x e = some-among ss j x e
 
-map-at : (f : ℕ → ℕ) (xs : List ℕ) (j : ℕ) → j < length xs → getD (map f xs) j 0 ≡ f (getD xs j 0)
-map-at f [] j h = absurd (omega arith)
-map-at f (x ∷ xs) zero h = refl
-map-at f (x ∷ xs) (suc j) h = map-at f xs j (omega arith)
+pub map-at : {A B : Type 0} (f : A → B) (xs : List A) (j : ℕ) (d : A) (e : B) → j < length xs → getD (map f xs) j e ≡ f (getD xs j d)
+map-at f [] j d e h = absurd (omega arith)
+map-at f (x ∷ xs) zero d e h = refl
+map-at f (x ∷ xs) (suc j) d e h = map-at f xs j d e (omega arith)
 
 below-at : (m : ℕ) (xs : List ℕ) (j : ℕ) → AllBelow m xs → j < length xs → getD xs j 0 < m
 below-at m [] j b h = absurd (omega arith)
@@ -75,7 +75,7 @@ module _ (symbols : List ℕ) (n : Node) (j : ℕ) where
     is-field = getD-take (countOf (sortsOf symbols n)) (fieldsOf n) j 0 (used-among (sortsOf symbols n) j x used)
 
     pub image-used : (images : List ℕ) → getD (imagesOf symbols images n) j 0 ≡ getD images (getD (fieldsOf n) j 0) 0
-    image-used images = map-at (λ k. getD images k 0) (operandsOf symbols n) j among ∙ ap (λ k. getD images k 0) is-field
+    image-used images = map-at (λ k. getD images k 0) (operandsOf symbols n) j 0 0 among ∙ ap (λ k. getD images k 0) is-field
 
     pub field-below : (earlier : List Node) → nodeRight symbols earlier n ≡ true → getD (fieldsOf n) j 0 < length earlier
     field-below earlier right =

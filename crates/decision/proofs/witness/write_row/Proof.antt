@@ -12,6 +12,7 @@ use Rattle.definitions.specs.Problem.Ops.{arity}
 use Rattle.definitions.specs.Elimination.{imagesOf}
 use Rattle.definitions.specs.Witness.{Row, rowBytes}
 use Rattle.elimination.specs.State.{stateAt, three}
+use Rattle.elimination.specs.declared.laid.Laid.{Laid}
 use Rattle.elimination.proofs.Laying.{tail-whole}
 use Rattle.decision.proofs.RowLaws.{image-fits, rows-room, row-read, row-placed}
 use Rattle.decision.proofs.witness.write_row.Statement.{statement}
@@ -21,15 +22,19 @@ module _ (c : tie.Start) where
   abbrev s : List ℕ
   s = c .args .problem .now
 
+  -- what is laid (t4 is the parameter, before it is lent)
+  abbrev all : Laid
+  all = c .args .t4
+
   -- the application's node, as it is laid
   abbrev app : ℕ
-  app = getD (c .args .all .apps) (c .args .i) 0
+  app = getD (all .apps) (c .args .i) 0
 
   few : c .args .i < 40
-  few = rows-room s (c .pre .0) (c .args .all) (c .pre .2) (c .args .i) (c .pre .3)
+  few = rows-room s (c .pre .0) all (c .pre .2) (c .args .i) (c .pre .3)
 
-  image-low : getD (c .args .all .images) app 0 < 2632
-  image-low = image-fits s (c .pre .0) (c .args .all) (c .pre .2) (c .args .i) (c .pre .3)
+  image-low : getD (all .images) app 0 < 2632
+  image-low = image-fits s (c .pre .0) all (c .pre .2) (c .args .i) (c .pre .3)
 
 array-read-wide : tie.Need-array-read-wide
 array-read-wide c = let f = few (c .before .before .before .before .before) in omega arith
@@ -98,7 +103,7 @@ images-of-requires c κs =
       inside,
       omega arith,
       laid .images-long,
-      subst (λ k. take k (st .args .all .images) ≡ stateAt (s st) k .images) (sym (st .pre .1 .nodes-are)) (laid .images-are),
+      subst (λ k. take k (all st .images) ≡ stateAt (s st) k .images) (sym (st .pre .1 .nodes-are)) (laid .images-are),
     )
 
 array-read-argument : tie.Need-array-read-argument
@@ -119,43 +124,25 @@ array-read-argument-3 c = search needs
 argument-requires-3 : tie.Need-argument-requires-3
 argument-requires-3 c κs = search needs
 
-mul-number : tie.Need-mul-number
-mul-number c = search needs
-
-array-read-number : tie.Need-array-read-number
-array-read-number c =
-    let got = c .before .before .before .before .before .before .before .before .before in
-    let few-nodes = start got .pre .1 .few-nodes in
+value-at-requires : tie.Need-value-at-requires
+value-at-requires c κs =
+    let got = c .before .before .before .before .before .before .before .before .before .before .before .before in
+    let st = start got in
+    let few-nodes = st .pre .1 .few-nodes in
     let inside = q-node got in
-    omega arith
-
-number-requires : tie.Need-number-requires
-number-requires c κs = search needs
-
--- the image read is that of the application
-module _ (c : tie.After-number) where
-  abbrev got : tie.After-wide
-  got = c .before .before .before .before .before .before .before .before .before .before
-
-  abbrev images : List ℕ
-  images = start got .args .all .images
-
-  image-is : c .number .result ≡ getD images (app (start got)) 0
-  image-is = c .number .ensures ∙ ap (λ n. getD images n 0) (q-is got)
-
-shared-slice-read-value : tie.Need-shared-slice-read-value
-shared-slice-read-value c =
-    let read = c .before in
-    let st = start (got read) in
+    let images-long = st .pre .2 .images-long in
+    let values-long = st .pre .4 in
     let low = image-low st in
-    let is = image-is read in
-    let long = st .pre .4 in
-    omega arith
+    let is = ap (λ n. getD (all st .images) n 0) (q-is got) in
+    (omega arith, omega arith)
 
 -- where the row goes
-module _ (c : tie.After-shared-slice-known4) where
+module _ (c : tie.After-value-at) where
+  abbrev got : tie.After-wide
+  got = c .before .before .before .before .before .before .before .before .before .before .before .before .before
+
   abbrev first : tie.Start
-  first = start (got (c .before))
+  first = start got
 
   row-room : 6 + 5 * first .args .i + 5 ≤ 206
   row-room = let f = few first in omega arith
@@ -209,9 +196,10 @@ operands-read c =
 
 returns : tie.Need-returns
 returns c = λ p are.
-    let numbered = c .before .before .before .before .before in
-    let st = start (got numbered) in
-    let given = numbered .before .before .before .before in
+    let valued = c .before .before .before .before in
+    let st = first valued in
+    let third = valued .before .before .before .before in
+    let given = third .before .before .before in
     let read = given .before .before in
     let f = few st in
     let room = st .pre .5 in
@@ -220,19 +208,19 @@ returns c = λ p are.
     let values = st .args .values .now in
     row-placed old _ (c .before .before .put-row .last .0) (6 + 5 * i) (omega arith) (c .before .before .put-row .ensures)
     ∙ ap (λ (r : Row). take (6 + 5 * i) old ++ rowBytes r ++ drop (6 + 5 * i + 5) old)
-    (row-read (s st) (st .pre .0) (st .args .all) (st .pre .2) i (st .pre .3) p values (given .images-of .result) (operands-read given)
+    (row-read (s st) (st .pre .0) (all st) (st .pre .2) i (st .pre .3) p values (given .images-of .result) (operands-read given)
     _
     (read .arity-of .result)
-    (numbered .before .before .before .argument .result)
-    (numbered .before .before .argument2 .result)
-    (numbered .before .argument3 .result)
-    (getD values (numbered .number .result) 0)
+    (third .before .before .argument .result)
+    (third .before .argument2 .result)
+    (third .argument3 .result)
+    (valued .value-at .result)
     (sym (read .before .wide2 .ensures .0) ∙ sym (symbol-read read))
     (read .arity-of .ensures .0 ∙ ap (arity (symbolsOf (s st))) (sym (symbol-read read)))
-    (numbered .before .before .before .argument .ensures)
-    (numbered .before .before .argument2 .ensures)
-    (numbered .before .argument3 .ensures)
-    (ap (λ image. getD values image 0) (image-is numbered))
+    (third .before .before .argument .ensures)
+    (third .before .argument2 .ensures)
+    (third .argument3 .ensures)
+    (valued .value-at .ensures ∙ ap (λ n. getD values (getD (all st .images) n 0) 0) (q-is (got valued)))
     are)
 
 pub write-row-spec : {M : Type 1} → statement M
@@ -254,10 +242,7 @@ write-row-spec =
     argument-requires-2
     array-read-argument-3
     argument-requires-3
-    mul-number
-    array-read-number
-    number-requires
-    shared-slice-read-value
+    value-at-requires
     mul-at
     add-at
     sub-put-row
