@@ -53,13 +53,14 @@ fn cut_sample_by_the_reference() {
     }
 }
 
-/// The proved program; `None`, and a word about it, where it has not been made.
-fn program() -> Option<PathBuf> {
-    let path = Path::new(env!("CARGO_MANIFEST_DIR")).join("../../target/bin/night");
-    if path.exists() {
-        return Some(path);
+/// What starts the proved program; `None`, and a word about it, where that has not been made.
+fn starter() -> Option<PathBuf> {
+    let root = Path::new(env!("CARGO_MANIFEST_DIR")).join("../..");
+    let program = root.join("target/bin/night");
+    if program.exists() {
+        return Some(root.join(".ci/start"));
     }
-    let absent = format!("{} is not there", path.display());
+    let absent = format!("{} is not there", program.display());
     assert!(env::var_os("CI").is_none(), "{absent}");
     // Straight to the error stream: what print macros write is kept back from passing tests.
     let message = format!("skipped: {absent}\n");
@@ -67,23 +68,10 @@ fn program() -> Option<PathBuf> {
     None
 }
 
-/// Starts the program: it is for x86-64, so elsewhere the words of EQP_EMULATOR go before it.
-fn command(program: &Path) -> Command {
-    let emulator = env::var("EQP_EMULATOR").unwrap_or_default();
-    let mut words = emulator.split_whitespace();
-    match words.next() {
-        Some(first) => {
-            let mut command = Command::new(first);
-            command.args(words).arg(program);
-            command
-        }
-        None => Command::new(program),
-    }
-}
-
 /// What the program prints for an input.
-fn run(program: &Path, input: &[u8]) -> Vec<u8> {
-    let mut child = command(program)
+fn run(starter: &Path, input: &[u8]) -> Vec<u8> {
+    let mut child = Command::new(starter)
+        .arg("night")
         .stdin(Stdio::piped())
         .stdout(Stdio::piped())
         .spawn()
@@ -98,8 +86,8 @@ fn run(program: &Path, input: &[u8]) -> Vec<u8> {
     output.stdout
 }
 
-fn expect_same(program: &Path, input: &[u8]) {
-    let (wanted, printed) = (reference::night(input), run(program, input));
+fn expect_same(starter: &Path, input: &[u8]) {
+    let (wanted, printed) = (reference::night(input), run(starter, input));
     if wanted != printed {
         let same = wanted.iter().zip(&printed).take_while(|(a, b)| a == b);
         let line = same.filter(|(&a, _)| a == b'\n').count();
@@ -146,26 +134,26 @@ fn job(rng: &mut Rng) -> Vec<u8> {
 
 #[test]
 fn sample_by_the_program() {
-    if let Some(program) = program() {
-        let lines = run(&program, samples::sample_night().bytes());
+    if let Some(starter) = starter() {
+        let lines = run(&starter, samples::sample_night().bytes());
         assert_eq!(String::from_utf8_lossy(&lines), SAMPLE);
-        expect_same(&program, &[]);
-        expect_same(&program, samples::feedback_tap().bytes());
+        expect_same(&starter, &[]);
+        expect_same(&starter, samples::feedback_tap().bytes());
     }
 }
 
 #[test]
 fn stream_by_the_program() {
-    let program = match program() {
-        Some(program) => program,
+    let starter = match starter() {
+        Some(starter) => starter,
         None => return,
     };
     let mut rng = Rng::new(2);
     let (jobs, ends) = stream(&mut rng);
     let whole = jobs.bytes();
-    expect_same(&program, whole);
+    expect_same(&starter, whole);
     for _ in 0..WHOLE_CUTS {
-        expect_same(&program, &whole[..rng.below(whole.len())]);
+        expect_same(&starter, &whole[..rng.below(whole.len())]);
     }
     for cut in 0..CUTS {
         // From some job on: cut near the start, close to the end of a job, or anywhere.
@@ -179,6 +167,6 @@ fn stream_by_the_program() {
             3 => (rng.pick(ends) + rng.within(1, 10)).min(last),
             _ => rng.within(first, last),
         };
-        expect_same(&program, &whole[first..end]);
+        expect_same(&starter, &whole[first..end]);
     }
 }
