@@ -9,13 +9,13 @@ use Rattle.walk.proofs.lanes.first_false.Statement.{statement}
 use Rattle.walk.proofs.lanes.first_false.Tie as tie
 
 abbrev Inv-loop : tie.InvT-loop
-Inv-loop cells root many l₀ l = (l ≤ many) × ((k : ℕ) → k < l → cell cells (42 + root) k ≡ 0 → ⊥)
+Inv-loop cells root many l₀ l = (k : ℕ) → k < l → cell cells (42 + root) k ≡ 0 → ⊥
 
 abbrev μ-loop : tie.MeasureT-loop
-μ-loop cells root many l₀ l = many - l
+μ-loop cells root many l₀ l = 16 - l
 
 loop-holds : tie.Need-loop-holds Inv-loop μ-loop
-loop-holds c = (omega arith, λ k h. absurd (omega arith))
+loop-holds c = λ k h. absurd (omega arith)
 
 add-if1 : tie.Need-add-if1 Inv-loop μ-loop
 add-if1 c = omega arith
@@ -30,7 +30,7 @@ shared-slice-read-if1 : tie.Need-shared-slice-read-if1 Inv-loop μ-loop
 shared-slice-read-if1 c = omega arith
 
 returns : tie.Need-returns Inv-loop μ-loop
-returns c = record { inside = omega arith; before = c .before .before .before .loop .inv .1; there = λ h. c .if1 .taken }
+returns c = record { inside = omega arith; before = c .before .before .before .loop .inv; there = λ h. c .if1 .taken }
 
 add-l : tie.Need-add-l Inv-loop μ-loop
 add-l c = omega arith
@@ -39,10 +39,10 @@ loop-less : tie.Need-loop-less Inv-loop μ-loop
 loop-less c = omega arith
 
 loop-again : tie.Need-loop-again Inv-loop μ-loop
-loop-again c = (omega arith, below-more _ _ (c .before .before .before .loop .inv .1) (c .if1 .left))
+loop-again c = below-more _ _ (c .before .before .before .loop .inv) (c .if1 .left)
 
 returns-2 : tie.Need-returns-2 Inv-loop μ-loop
-returns-2 c = record { inside = omega arith; before = λ l h. c .before .loop .inv .1 l (omega arith); there = λ h. absurd (omega arith) }
+returns-2 c = record { inside = omega arith; before = λ l h. c .before .loop .inv l (omega arith); there = λ h. absurd (omega arith) }
 
 pub first-false-spec : {M : Type 1} → statement M
 first-false-spec =
