@@ -14,6 +14,17 @@ use Rattle.walk.specs.Digits.{digitsOf, sizesIn, Turning, NextIs}
 use Rattle.walk.specs.declared.odometer.Odometer.{Odometer}
 use Rattle.walk.proofs.Turns.{Carried, next-turns, next-wraps, within-at, within-of}
 
+-- a digit in use is below its size
+pub digit-in-range : (o : Odometer) → Turning o → (v : ℕ) → v < o .count → getD (o .digits) v 0 < getD (o .sizes) v 0
+digit-in-range o t v h =
+    let few = t .few in
+    let long = t .sizes-long in
+    let l = length-take-le (o .count) (o .sizes) (omega arith) in
+    let w = within-at (sizesIn o) (digitsOf o) (t .within) v (omega arith) in
+    let a = getD-take (o .count) (o .sizes) v 0 h in
+    let b = getD-take (o .count) (o .digits) v 0 h in
+    omega arith
+
 pub record Carrying (o : Odometer) (i : ℕ) (ds : List ℕ) : Type 0 where
   pub turning : Turning o
   pub inside : i ≤ o .count
@@ -37,18 +48,9 @@ module _ (o : Odometer) (i : ℕ) (ds : List ℕ) (c : Carrying o i ds) where
   abbrev t : Turning o
   t = c .turning
 
-  -- a digit in use is below its size
+  -- digit i, which still stands
   pub digit-below : i < o .count → getD ds i 0 < getD (o .sizes) i 0
-  digit-below h =
-      let few = t .few in
-      let sizes-long = t .sizes-long in
-      let digits-long = t .digits-long in
-      let l = length-take-le (o .count) (o .sizes) (omega arith) in
-      subst (λ n. n < getD (o .sizes) i 0) (sym (c .kept i (omega arith)))
-      (let w = within-at (sizesIn o) (digitsOf o) (t .within) i (omega arith) in
-      let a = getD-take (o .count) (o .sizes) i 0 h in
-      let b = getD-take (o .count) (o .digits) i 0 h in
-      omega arith)
+  digit-below h = subst (λ n. n < getD (o .sizes) i 0) (sym (c .kept i (omega arith))) (digit-in-range o t i h)
 
   module _ (es : List ℕ) (long : length es ≡ 40) where
     abbrev after : Odometer
@@ -98,30 +100,10 @@ module _ (o : Odometer) (i : ℕ) (ds : List ℕ) (c : Carrying o i ds) where
           past = past;
         }
 
-  -- the sizes in use are at least 1
-  size-positive : (j : ℕ) → j < o .count → 0 < getD (o .sizes) j 0
-  size-positive j h =
-      let a = t .few in
-      let b = t .sizes-long in
-      let l = length-take-le (o .count) (o .sizes) (omega arith) in
-      let w = within-at (sizesIn o) (digitsOf o) (t .within) j (omega arith) in
-      let s = getD-take (o .count) (o .sizes) j 0 h in
-      omega arith
-
   below-size : (j : ℕ) → j < o .count → getD ds j 0 < getD (o .sizes) j 0
   below-size j h =
-      elim (split j i) [
-        | inl l ↦ let z = c .zeros j l in let p = size-positive j h in omega arith
-        | inr l ↦
-            let a = t .few in
-            let b = t .sizes-long in
-            let e = length-take-le (o .count) (o .sizes) (omega arith) in
-            let k = c .kept j l in
-            let w = within-at (sizesIn o) (digitsOf o) (t .within) j (omega arith) in
-            let s = getD-take (o .count) (o .sizes) j 0 h in
-            let d = getD-take (o .count) (o .digits) j 0 h in
-            omega arith
-      ]
+      let w = digit-in-range o t j h in
+      elim (split j i) [ inl l ↦ let z = c .zeros j l in omega arith | inr l ↦ let k = c .kept j l in omega arith ]
 
   past-kept : (j : ℕ) → o .count ≤ j → getD ds j 0 ≡ 0
   past-kept j h = c .kept j (let l = c .inside in omega arith) ∙ t .past j h
@@ -161,6 +143,7 @@ module _ (o : Odometer) (i : ℕ) (ds : List ℕ) (c : Carrying o i ds) where
             (carried es long i (omega arith) (c .tops) (λ j l. there j (λ q. omega arith) ∙ c .zeros j l)) (omega arith) (omega arith) (omega arith)
             (λ j l. pointwise es j l there);
         at-end = λ e. absurd (false≢true e);
+        not-end = λ _ z. let q = z i in omega arith;
       }
     where
       pointwise : (es : List ℕ) (j : ℕ) → i < j → ((j : ℕ) → (j ≡ i → ⊥) → getD es j 0 ≡ getD ds j 0) → getD (take (o .count) es) j 0 ≡ getD (digitsOf o) j 0
@@ -191,6 +174,7 @@ module _ (o : Odometer) (i : ℕ) (ds : List ℕ) (c : Carrying o i ds) where
         at-end =
             λ _ j.
             elim (split j i) [ inl b ↦ c .zeros j b | inr b ↦ past-kept j (omega arith) ];
+        not-end = λ e. absurd (false≢true (sym e));
       }
 
   -- digit i goes back to 0, and the next one is looked at

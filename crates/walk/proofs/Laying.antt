@@ -8,7 +8,7 @@ use mathlib.Core.Logic.{_⊎_, inl, inr}
 use lib.ListN.{length, getD, set, length-set}
 use lib.Seq.{getD-set-same, getD-set-other}
 use lib.Dec.{eqb}
-use borrow.Author.Tests.{eq-eqb, ne-eqb}
+use borrow.Author.Tests.{eqb-true, eqb-false}
 use Rattle.theorems.proofs.Laws.Tests.{split}
 use Rattle.walk.specs.Cells.{cell, chosen, Earlier, Ready, Picked, LanesLaid, Solved, LaneCopied}
 
@@ -16,11 +16,13 @@ use Rattle.walk.specs.Cells.{cell, chosen, Earlier, Ready, Picked, Lanes
 abbrev by : Bool → ℕ → ℕ → ℕ
 by b same apart = elim b as (λ _. ℕ) [ true ↦ same | false ↦ apart ]
 
-pub chosen-same : (x y same apart : ℕ) → x ≡ y → chosen x y same apart ≡ same
-chosen-same x y same apart e = ap (λ b. by b same apart) (eq-eqb x y e)
-
-pub chosen-apart : (x y same apart : ℕ) → (x ≡ y → ⊥) → chosen x y same apart ≡ apart
-chosen-apart x y same apart n = ap (λ b. by b same apart) (ne-eqb x y n)
+-- a choice, by its two cases
+pub chosen-is : (x y p q r : ℕ) → (x ≡ y → p ≡ r) → ((x ≡ y → ⊥) → q ≡ r) → chosen x y p q ≡ r
+chosen-is x y p q r same apart = go (eqb x y) refl
+  where
+    go : (b : Bool) → eqb x y ≡ b → by b p q ≡ r
+    go true e = same (eqb-true x y e)
+    go false e = apart (eqb-false x y e)
 
 by-bit : (b : Bool) → (e : ℕ) → e ≡ by b 1 0 → (e ≡ 0) ⊎ (e ≡ 1)
 by-bit true e h = inr h
@@ -94,7 +96,7 @@ module _ (cells : List ℕ) (left right same apart : ℕ) where
 
   pub picks-all : (lanes : List ℕ) → (n : ℕ) → Picking cells left right same apart lanes n → 16 ≤ n
       → Picked cells left right same apart lanes
-  picks-all lanes n p h = record { long = p .long; lane = λ l b. p .lane l (omega arith) }
+  picks-all lanes n p h = record { lane = λ l b. p .lane l (omega arith) }
 
 -- the first n of sixteen lanes laid at a place of the cells
 pub record Laying (before : List ℕ) (at : ℕ) (lanes after : List ℕ) (n : ℕ) : Type 0 where

@@ -13,21 +13,13 @@ use Rattle.walk.specs.Cells.{cell, LaneHolds, PlacePut}
 use Rattle.walk.specs.Digits.{Turning, NextIs, PlacesLaid, digitsOf, sizesIn}
 use Rattle.walk.specs.declared.odometer.Odometer.{Odometer}
 use Rattle.walk.specs.declared.odometer.Step.{Step}
-use Rattle.walk.proofs.Turns.{within-at}
+use Rattle.walk.proofs.Carrying.{digit-in-range}
 
 -- a digit and 1 more is a byte
 pub digit-small : (o : Odometer) → Turning o → (v : ℕ) → getD (o .digits) v 0 + 1 < 256
 digit-small o t v =
     elim (split v (o .count)) [
-      | inl h ↦
-          let few = t .few in
-          let long = t .sizes-long in
-          let l = length-take-le (o .count) (o .sizes) (omega arith) in
-          let w = within-at (sizesIn o) (digitsOf o) (t .within) v (omega arith) in
-          let a = getD-take (o .count) (o .sizes) v 0 h in
-          let b = getD-take (o .count) (o .digits) v 0 h in
-          let s = t .sizes-small v in
-          omega arith
+      | inl h ↦ let w = digit-in-range o t v h in let s = t .sizes-small v in omega arith
       | inr h ↦ let z = t .past v h in omega arith
     ]
 

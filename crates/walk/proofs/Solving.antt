@@ -16,6 +16,7 @@ use Rattle.ranges.specs.Table.{TableIn, tableIn}
 use Rattle.walk.specs.Cells.{cell, chosen, branchBy, branchOf, Decoded, Solved, Constant, LaneHolds}
 use Rattle.walk.specs.Digits.{Digits, valueIn}
 use Rattle.walk.specs.declared.branches.Branch.{Branch}
+use Rattle.walk.proofs.Laying.{chosen-is}
 use Rattle.walk.proofs.Values.{
   variable-named,
   truth-named,
@@ -32,14 +33,6 @@ use Rattle.walk.proofs.Values.{
   at-or,
   no-other,
 }
-
--- a choice, by its two cases
-chosen-is : (x y p q r : ℕ) → (x ≡ y → p ≡ r) → ((x ≡ y → ⊥) → q ≡ r) → chosen x y p q ≡ r
-chosen-is x y p q r same apart = go (eqb x y) refl
-  where
-    go : (b : Bool) → eqb x y ≡ b → (elim b as (λ _. ℕ) [ true ↦ p | false ↦ q ]) ≡ r
-    go true e = same (eqb-true x y e)
-    go false e = apart (eqb-false x y e)
 
 module _
     (table : List ℕ)

@@ -72,7 +72,6 @@ Ordered bs nodes = (k : ℕ) → k < nodes → Ready bs k
 
 -- the lanes that a branch takes
 pub record Picked (cells : List ℕ) (left right same apart : ℕ) (lanes : List ℕ) : Type 0 where
-  pub long : length lanes ≡ 16
   pub lane : (l : ℕ) → l < 16
       → getD lanes l 0 ≡ chosen (getD cells (left + l) 0) (getD cells (right + l) 0) (getD cells (same + l) 0) (getD cells (apart + l) 0)
 

@@ -2,7 +2,7 @@
 use mathlib.Core.Path.{_≡_}
 use Prim.Native.Nat.{ℕ, _+_, _≤_, _<_}
 use mathlib.Core.List.{List, [], map}
-use mathlib.Core.Bool.{Bool, true}
+use mathlib.Core.Bool.{true, false}
 use lib.ListN.{length, getD, take}
 use Rattle.definitions.specs.Lists.{productOf}
 use Rattle.definitions.specs.Logic.{valueAt, values}
@@ -51,6 +51,7 @@ pub record NextIs (o : Odometer) (r : Step) : Type 0 where
   pub same-count : r .odometer .count ≡ o .count
   pub digits-next : digitsOf (r .odometer) ≡ next (sizesIn o) (digitsOf o)
   pub at-end : r .ended ≡ true → (i : ℕ) → getD (r .odometer .digits) i 0 ≡ 0
+  pub not-end : r .ended ≡ false → ((i : ℕ) → getD (r .odometer .digits) i 0 ≡ 0) → ⊥
 
 -- sixteen places from the odometer's on stand in the lanes, and the odometer at the last of them is handed on
 pub record PlacesLaid (o : Odometer) (N : ℕ) (before after : List ℕ) (r : Odometer) : Type 0 where

@@ -6,6 +6,7 @@ ghost use lib.ListN.{length};
 ghost use Rattle.walk.specs.Cells.{chosen, Ordered, Picked, LanesLaid, Solved, FirstLane, LaneCopied};
 use problem::bytes::number;
 
+// 1 for equal values, else 0.
 fn equal(x: u8, y: u8) -> u8
     ensures { λ r. ⌜ r ≡ chosen x y 1 0 ⌝ }
 {
@@ -42,8 +43,9 @@ fn pick(cells: &[u8], left: usize, right: usize, same: usize, apart: usize) -> [
     lanes
 }
 
+// Sixteen lanes go to a place of the cells.
 pub fn put_lanes(cells: &mut [u8], at: usize, lanes: [u8; 16])
-    requires { ⌜ (at + 16 ≤ length (now cells)) × (length lanes ≡ 16) ⌝ }
+    requires { ⌜ at + 16 ≤ length (now cells) ⌝ }
     ensures { λ r. ⌜ LanesLaid (now (cells .entry)) at lanes (now (cells .exit)) ⌝ }
 {
     let mut l = 0;

@@ -21,10 +21,10 @@ decode-requires : tie.Need-decode-requires Inv-loop μ-loop
 decode-requires c κs = (c .before .before .before .before .before .pre .0, c .before .before .before .before .before .pre .3)
 
 put-lanes-requires : tie.Need-put-lanes-requires Inv-loop μ-loop
-put-lanes-requires c κs = (let long = c .before .before .before .before .before .before .before .before .before .pre .4 in omega arith, length-replicate {A = ℕ} 16 0)
+put-lanes-requires c κs = let long = c .before .before .before .before .before .before .before .before .before .pre .4 in omega arith
 
 put-lanes-requires-2 : tie.Need-put-lanes-requires-2 Inv-loop μ-loop
-put-lanes-requires-2 c κs = (let long = c .before .before .before .before .before .before .before .before .before .before .before .before .before .pre .4 in let same = c .before .before .before .put-lanes .kept .0 in omega arith, length-replicate {A = ℕ} 16 1)
+put-lanes-requires-2 c κs = let long = c .before .before .before .before .before .before .before .before .before .before .before .before .before .pre .4 in let same = c .before .before .before .put-lanes .kept .0 in omega arith
 
 loop-holds : tie.Need-loop-holds Inv-loop μ-loop
 loop-holds c =

@@ -103,7 +103,7 @@ put-lanes-requires c κs =
     let fits = s .pre .1 in
     let long = l .inv .1 in
     let room : 16 * (42 + l .k) + 16 ≤ length (l .cells) = omega arith in
-    (room, c .before .pick .ensures .long)
+    room
 
 add-k : tie.Need-add-k Inv-loop μ-loop
 add-k c = omega arith

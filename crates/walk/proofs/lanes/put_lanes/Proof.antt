@@ -1,4 +1,4 @@
--- `lay` puts sixteen lanes at a place: the loop keeps that the first l of them stand there and that nothing outside has changed.
+-- `put_lanes` puts sixteen lanes at a place: the loop keeps that the first l of them stand there and that nothing outside has changed.
 -- Assumes nothing.
 use native.Mathlib.Omega.{arith}
 use Prim.Native.Nat.{_-_}
@@ -19,10 +19,10 @@ array-read-cells : tie.Need-array-read-cells Inv-loop μ-loop
 array-read-cells c = omega arith
 
 add-cells : tie.Need-add-cells Inv-loop μ-loop
-add-cells c = let p = c .before .before .pre .0 in omega arith
+add-cells c = let p = c .before .before .pre in omega arith
 
 slice-write-cells : tie.Need-slice-write-cells Inv-loop μ-loop
-slice-write-cells c = let long = c .before .loop .inv .long in let p = c .before .before .pre .0 in omega arith
+slice-write-cells c = let long = c .before .loop .inv .long in let p = c .before .before .pre in omega arith
 
 add-l : tie.Need-add-l Inv-loop μ-loop
 add-l c = omega arith
@@ -31,7 +31,7 @@ loop-less : tie.Need-loop-less Inv-loop μ-loop
 loop-less c = omega arith
 
 loop-again : tie.Need-loop-again Inv-loop μ-loop
-loop-again c = lays-more _ _ _ _ _ (c .before .loop .inv) (omega arith) (c .before .before .pre .0)
+loop-again c = lays-more _ _ _ _ _ (c .before .loop .inv) (omega arith) (c .before .before .pre)
 
 same-length : tie.Need-same-length Inv-loop μ-loop
 same-length c = c .before .loop .inv .long
