@@ -1,18 +1,17 @@
 -- The odometer at place 1, from its sizes one by one. Assumes nothing.
-use mathlib.Core.Path.{_≡_, refl, sym, ap, _∙_, subst}
-use Prim.Native.Nat.{ℕ, zero, suc, _+_, _-_, _≤_, _<_}
+use mathlib.Core.Path.{_≡_, refl, sym, ap, _∙_}
+use Prim.Native.Nat.{ℕ, suc, _+_, _-_, _≤_, _<_}
 use native.Mathlib.Omega.{arith}
-use mathlib.Core.Bool.{Bool, true, false, cond}
+use mathlib.Core.Bool.{Bool, cond}
 use mathlib.Core.List.{List, [], _∷_, _++_}
-use mathlib.Core.Logic.{_⊎_, inl, inr}
-use lib.ListN.{length, getD, take, set, replicate, length-replicate, length-append, length-take, length-set, getD-replicate, List·getD-append, List·getD-eq-default}
+use mathlib.Core.Logic.{inl, inr}
+use lib.ListN.{length, getD, take, set, replicate, length-replicate, length-append, length-set, getD-replicate, List·getD-append, List·getD-eq-default}
 use lib.Seq.{getD-take, length-take-le, getD-append-add, ext-getD, getD-set-same, getD-set-other}
-use lib.Dec.{ltb}
 use borrow.Author.Tests.{lt-ltb, le-ltb}
 use Rattle.definitions.specs.Ranges.{sizes}
 use Rattle.definitions.specs.Places.{first}
 use Rattle.theorems.proofs.Laws.Tests.{split}
-use Rattle.theorems.proofs.Search.Places.{Positive, Within}
+use Rattle.theorems.proofs.Search.Places.{Positive}
 use Rattle.walk.specs.Digits.{digitsOf, sizesIn, Turning}
 use Rattle.walk.specs.Walked.{Starts}
 use Rattle.walk.specs.declared.odometer.Odometer.{Odometer}

@@ -1,24 +1,24 @@
 -- The row of a distinct application at a place, from the values that the code has at hand. Assumes nothing.
 use mathlib.Core.Path.{_≡_, refl, sym, ap, ap₂, _∙_, subst}
-use Prim.Native.Nat.{ℕ, zero, suc, _+_, _*_, _-_, _≤_, _<_}
+use Prim.Native.Nat.{ℕ, zero, suc, _+_, _-_, _≤_, _<_}
 use native.Mathlib.Omega.{arith}
-use native.Mathlib.Nat.{min-le-left, min-le-right, le-min}
-use mathlib.Core.Bool.{Bool, true, false, cond}
+use native.Mathlib.Nat.{min-le-left, le-min}
+use mathlib.Core.Bool.{Bool, true, cond}
 use mathlib.Core.List.{List, [], _∷_, _++_, map, reverse, reverseAux, append-nil, append-assoc}
-use mathlib.Core.Logic.{_⊎_, inl, inr}
+use mathlib.Core.Logic.{inl, inr}
 use mathlib.Core.Option.{none}
 use lib.ListN.{length, getD, take, drop, length-map, length-take, length-reverse, length-replicate, List·getD-eq-default}
-use lib.Seq.{getD-take, length-take-le, drop-drop}
+use lib.Seq.{getD-take, drop-drop}
 use lib.Dec.{ltb}
 use borrow.Rule.Slice.PartMut.{midOf, putMid}
 use borrow.Author.Tests.{lt-ltb, le-ltb}
 use Rattle.definitions.specs.Problem.Node.{Node, node}
-use Rattle.definitions.specs.Problem.Ops.{Sort, term, opOf, isApp, arity, nodeRight, sortsOf, countOf, fieldsOf, operandsOf}
+use Rattle.definitions.specs.Problem.Ops.{Sort, term, opOf, isApp, arity, sortsOf, countOf, fieldsOf, operandsOf}
 use Rattle.definitions.specs.Problem.Check.{nodeCount, symbolsOf, nodesOf, firstWrong}
 use Rattle.definitions.specs.Logic.{Interpretation, Value, number, numberOf, valueAt, numberAt, nodeValue, values}
-use Rattle.definitions.specs.Elimination.{App, State, imagesOf, begin, steps, eliminated, tableOf}
+use Rattle.definitions.specs.Elimination.{App, State, imagesOf, begin, steps, eliminated}
 use Rattle.definitions.specs.Places.{assignmentAt, valuesAt}
-use Rattle.definitions.specs.Witness.{Row, byteOf, rowOf, appRow, rowsAt}
+use Rattle.definitions.specs.Witness.{byteOf, rowOf, appRow, rowsAt}
 use Rattle.theorems.proofs.Accepted.{Accepted}
 use Rattle.theorems.proofs.Laws.Tests.{split}
 use Rattle.theorems.proofs.Laws.Ops.{app-sorts}

@@ -1,14 +1,14 @@
 -- From a walk of the laid table to the outcome of the search. Assumes nothing.
-use mathlib.Core.Path.{_≡_, refl, sym, ap, ap₂, _∙_, subst}
-use Prim.Native.Nat.{ℕ, suc, _-_, _≤_, _<_, min}
+use mathlib.Core.Path.{_≡_, sym, ap, ap₂, _∙_, subst}
+use Prim.Native.Nat.{ℕ, _-_, _≤_, _<_, min}
 use native.Mathlib.Omega.{arith}
 use mathlib.Core.Bool.{Bool, true, false}
-use mathlib.Core.List.{List, [], map, _++_}
+use mathlib.Core.List.{List, [], map}
 use lib.ListN.{length, getD, take, replicate, length-append, length-replicate}
 use lib.Seq.{take-all}
 use Rattle.definitions.specs.Lists.{below}
 use Rattle.definitions.specs.Problem.Node.{Node}
-use Rattle.definitions.specs.Problem.Check.{nodeCount, nodesOf, functionsIn, predicatesIn}
+use Rattle.definitions.specs.Problem.Check.{nodeCount, nodesOf, functionsIn}
 use Rattle.definitions.specs.Logic.{Value, truthAt, nodeValue, values}
 use Rattle.definitions.specs.Elimination.{eliminated, tableOf, rootOf}
 use Rattle.definitions.specs.Ranges.{rank, joined, tops, sizes, topsOf, sizesOf, product, padded}
@@ -22,7 +22,7 @@ use Rattle.theorems.proofs.Laws.Grown.{length-grown}
 use Rattle.theorems.proofs.Ranges.Adequate.{length-below}
 use Rattle.theorems.proofs.Truth.{root-within, root-formula}
 use Rattle.theorems.proofs.Fits.{howMany-le}
-use Rattle.theorems.proofs.Search.Verdict.{AllTrue, FirstFalse, valid-when, falsified-when, stopped-when}
+use Rattle.theorems.proofs.Search.Verdict.{AllTrue, valid-when, falsified-when, stopped-when}
 use Rattle.elimination.specs.declared.laid.Laid.{Laid}
 use Rattle.elimination.proofs.Promising.{nodes-laid, root-laid}
 use Rattle.ranges.specs.Table.{tableIn, TableIn}

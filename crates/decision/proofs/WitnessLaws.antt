@@ -1,18 +1,16 @@
 -- The witness grows by one row at a time, and is whole after the last. Assumes nothing.
-use mathlib.Core.Path.{_≡_, refl, sym, ap, ap₂, _∙_, subst}
-use Prim.Native.Nat.{ℕ, zero, suc, _+_, _*_, _≤_, _<_}
+use mathlib.Core.Path.{_≡_, refl, sym, ap, ap₂, _∙_}
+use Prim.Native.Nat.{ℕ, _+_, _*_, _≤_, _<_}
 use native.Mathlib.Omega.{arith}
 use native.Mathlib.Numerals.{add-one}
-use mathlib.Core.List.{List, [], _∷_, _++_, map, reverse, append-nil, append-assoc}
+use mathlib.Core.List.{List, [], _∷_, _++_, reverse, append-nil, append-assoc}
 use lib.ListN.{length, getD, take, drop, length-append, length-map, length-reverse}
 use lib.Seq.{take-suc, take-at, drop-at, drop-drop, take-all, length-take-le}
 use Rattle.definitions.specs.Lists.{concatMap}
-use Rattle.definitions.specs.Bytes.{EQW, two}
 use Rattle.definitions.specs.Problem.Check.{nodeCount, symbolsOf}
 use Rattle.definitions.specs.Elimination.{State, eliminated}
 use Rattle.definitions.specs.Places.{valuesAt}
 use Rattle.definitions.specs.Witness.{Row, rowBytes, witnessBytes, appRow, rowsAt, witnessAt}
-use Rattle.definitions.specs.Operations.Buffers.{over}
 use Rattle.theorems.proofs.Accepted.{Accepted}
 use Rattle.theorems.proofs.Witness.ReadBack.{witness-length}
 use Rattle.elimination.specs.State.{LaidAt}

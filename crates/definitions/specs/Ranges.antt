@@ -1,8 +1,8 @@
 -- Leaves, links, components, and the range of each variable (01, 'Ranges and order'; source document 002, section 3.1, taken
 -- per component). Assumes nothing.
 use Prim.Native.Nat.{ℕ, zero, suc, _+_, _-_}
-use mathlib.Core.List.{List, [], _∷_, _++_, map}
-use mathlib.Core.Bool.{Bool, true, false, _&&_, _||_, cond}
+use mathlib.Core.List.{List, [], _++_, map}
+use mathlib.Core.Bool.{Bool, false, _&&_, _||_, cond}
 use lib.ListN.{getD, length, replicate}
 use lib.Dec.{eqb}
 use Rattle.definitions.specs.Lists.{any, below, productOf}

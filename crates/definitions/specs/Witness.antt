@@ -1,16 +1,15 @@
 -- The witness: its bytes, a row for each distinct application in node order; and the tables that witness bytes stand for
 -- (01, 'Witness'). Assumes nothing.
-use Prim.Native.Nat.{ℕ, zero, suc, _+_, _*_}
+use Prim.Native.Nat.{ℕ, _+_, _*_}
 use mathlib.Core.List.{List, [], _∷_, _++_, map, reverse}
 use mathlib.Core.Bool.{Bool, true, false, _&&_}
 use lib.ListN.{getD, length}
 use lib.Dec.{eqb}
 use Rattle.definitions.specs.Lists.{concatMap, below}
 use Rattle.definitions.specs.Bytes.{EQW, two, byteAt}
-use Rattle.definitions.specs.Problem.Node.{Node}
 use Rattle.definitions.specs.Problem.Check.{symbolsOf}
 use Rattle.definitions.specs.Logic.{Interpretation, Value, number, truth, valueAt, numberAt}
-use Rattle.definitions.specs.Elimination.{App, State, imagesOf, eliminated}
+use Rattle.definitions.specs.Elimination.{App, imagesOf, eliminated}
 use Rattle.definitions.specs.Places.{valuesAt}
 
 -- a row: a symbol, three argument values, and the value there

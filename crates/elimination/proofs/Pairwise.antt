@@ -1,11 +1,11 @@
 -- The condition for one, two and three arguments, node by node. Assumes nothing.
-use mathlib.Core.Path.{_≡_, refl, sym, ap, ap₂, _∙_, subst₂}
-use Prim.Native.Nat.{ℕ, zero, suc, _+_}
+use mathlib.Core.Path.{_≡_, refl, sym, ap, ap₂, _∙_}
+use Prim.Native.Nat.{ℕ, _+_}
 use native.Mathlib.Omega.{arith}
 use mathlib.Core.List.{List, [], _∷_}
 use lib.ListN.{length, getD, take, length-append}
 use Rattle.definitions.specs.Lists.{snoc}
-use Rattle.definitions.specs.Problem.Node.{Node, plain}
+use Rattle.definitions.specs.Problem.Node.{Node}
 use Rattle.definitions.specs.Elimination.{last, further, condition}
 use Rattle.elimination.specs.Lays.{nodeOf}
 

@@ -1,8 +1,8 @@
 // What elimination has at hand after some nodes.
 ghost use Prim.Native.Nat.{_+_, _<_};
 ghost use mathlib.Core.Path.{_≡_};
-ghost use lib.ListN.{getD, set};
-ghost use Rattle.elimination.specs.State.{LaidAt, noneLaid, imageSet, appAdded};
+ghost use lib.ListN.{getD};
+ghost use Rattle.elimination.specs.State.{noneLaid, imageSet, appAdded};
 
 // It is handed on by value for every node, so its numbers are small: a problem node is below 256, and a table node below 2632.
 pub struct Laid {

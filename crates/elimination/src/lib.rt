@@ -1,6 +1,6 @@
 // The function-free table: `eliminate` lays it into the work buffer. The problem's nodes are taken in order; `laid` keeps what the
 // later nodes and the later stages need.
-ghost use Prim.Native.Nat.{_+_, _*_, _<_, _≤_};
+ghost use Prim.Native.Nat.{_+_, _<_, _≤_};
 ghost use lib.ListN.{length};
 ghost use Rattle.definitions.specs.Operations.Promises.{EliminatePromise};
 ghost use Rattle.theorems.proofs.Accepted.{Accepted};

@@ -1,5 +1,4 @@
 // The answer's part of a job's line (01, 'The night run').
-ghost use mathlib.Core.Path.{_≡_};
 ghost use Prim.Native.Nat.{_+_, _≤_};
 ghost use lib.ListN.{length};
 ghost use Rattle.definitions.specs.Night.{said};

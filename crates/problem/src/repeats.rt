@@ -1,6 +1,6 @@
 // Repeats: the earliest node with the same op, symbol and operand numbers; and how many applications are distinct.
 ghost use mathlib.Core.Path.{_≡_};
-ghost use Prim.Native.Nat.{_+_, _*_, _<_, _≤_};
+ghost use Prim.Native.Nat.{_+_, _<_};
 ghost use mathlib.Core.List.{[]};
 ghost use lib.ListN.{length, take};
 ghost use Rattle.definitions.specs.Problem.Node.{node, same};

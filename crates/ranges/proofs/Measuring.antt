@@ -1,26 +1,22 @@
 -- From a laid table to its tops and product, and from there to what ranges promises. Assumes nothing.
-use mathlib.Core.Path.{_≡_, refl, sym, ap, ap₂, _∙_, subst}
-use Prim.Native.Nat.{ℕ, _*_, _^_, _≤_, _<_}
+use mathlib.Core.Path.{_≡_, ap, ap₂, _∙_}
+use Prim.Native.Nat.{ℕ, _^_, _≤_, _<_}
 use native.Mathlib.Omega.{arith}
 use mathlib.Core.List.{List}
 use mathlib.Core.Option.{none, some}
 use lib.ListN.{length, replicate}
-use lib.Dec.{ltb}
 use borrow.Author.Tests.{lt-ltb, le-ltb}
-use Rattle.definitions.specs.Lists.{productOf}
 use Rattle.definitions.specs.Problem.Node.{Node, tableBytes}
 use Rattle.definitions.specs.Problem.Check.{nodesOf, functionsIn, predicatesIn, Refused, refuse}
 use Rattle.definitions.specs.Elimination.{tableOf}
-use Rattle.definitions.specs.Ranges.{tops, sizes, topsOf, sizesOf, product, padded}
-use Rattle.definitions.specs.Operations.Answers.{Answer, refused, given, Measure, RangesAnswer, eliminateRefusal, rangesRefusal, rangesAnswer}
+use Rattle.definitions.specs.Ranges.{tops, topsOf, sizesOf, product, padded}
+use Rattle.definitions.specs.Operations.Answers.{Answer, refused, given, Measure, eliminateRefusal, rangesRefusal, rangesAnswer}
 use Rattle.definitions.specs.Operations.Buffers.{over}
 use Rattle.definitions.specs.Operations.Readings.{refusalRead}
 use Rattle.definitions.specs.Operations.Promises.{RangesPromise}
 use Rattle.definitions.specs.declared.Refusal.{Refusal}
 use Rattle.definitions.specs.declared.Measured.{Measured}
-use Rattle.definitions.specs.declared.Ranges.{Ranges}
 use Rattle.theorems.proofs.Accepted.{Accepted}
-use Rattle.theorems.proofs.Tables.Free.{Free}
 use Rattle.theorems.proofs.Truth.{table-free}
 use Rattle.theorems.proofs.Fits.{table-short, table-fits}
 use Rattle.elimination.specs.declared.laid.Laid.{Laid}

@@ -1,9 +1,9 @@
 -- A table read back from its bytes is the table, whatever stands after them. Assumes nothing.
 use mathlib.Core.Path.{_≡_, refl, sym, ap, ap₂, _∙_}
-use Prim.Native.Nat.{ℕ, zero, suc, _+_, _*_, _/_, _%_, _≤_, _<_}
+use Prim.Native.Nat.{ℕ, zero, suc, _+_, _*_, _/_, _%_, _<_}
 use native.Mathlib.Omega.{arith}
 use mathlib.Core.List.{List, [], _∷_, _++_, append-assoc}
-use lib.ListN.{length, getD}
+use lib.ListN.{length}
 use lib.Seq.{getD-append-add}
 use Rattle.definitions.specs.Bytes.{byteAt, twoAt}
 use Rattle.definitions.specs.Problem.Node.{Node, node, nodeAt, nodesAt, nodeBytes, tableBytes}

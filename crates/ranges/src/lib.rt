@@ -1,7 +1,6 @@
 // The ranges: leaves, components, ranks and tops of the function-free table, and the product of all range sizes.
-ghost use Prim.Native.Nat.{_+_, _*_, _<_, _≤_};
+ghost use Prim.Native.Nat.{_<_};
 ghost use mathlib.Core.Path.{_≡_};
-ghost use lib.ListN.{length};
 ghost use Rattle.definitions.specs.Operations.Promises.{RangesPromise};
 ghost use Rattle.ranges.specs.Table.{TableIn};
 ghost use Rattle.ranges.specs.Spans.{SpansAre, noRanges};

@@ -1,5 +1,5 @@
 -- What it is for a problem to be taken: none of conditions 1 to 10 holds. Assumes nothing.
-use mathlib.Core.Path.{_≡_, refl, sym, ap, _∙_}
+use mathlib.Core.Path.{_≡_, refl, sym, ap}
 use Prim.Native.Nat.{ℕ, zero, suc, _+_, _*_, _≤_}
 use native.Mathlib.Omega.{arith}
 use mathlib.Core.Bool.{Bool, true, false, not, _||_, true≢false}
@@ -10,24 +10,8 @@ use lib.Dec.{eqb, ltb}
 use borrow.Author.Tests.{ltb-false, eqb-true, eqb-false, not-false}
 use Rattle.definitions.specs.Lists.{firstOf, firstFailing}
 use Rattle.definitions.specs.Bytes.{twoAt, EQP}
-use Rattle.definitions.specs.Problem.Node.{Node, nodesAt}
-use Rattle.definitions.specs.Problem.Check.{
-  symbolCount,
-  nodeCount,
-  symbolsOf,
-  nodesOf,
-  stands,
-  symbolByteRight,
-  firstWrong,
-  termAsked,
-  functionsIn,
-  predicatesIn,
-  Refused,
-  refuseIf,
-  refuseAt,
-  checkConditions,
-  refusalOf,
-}
+use Rattle.definitions.specs.Problem.Node.{nodesAt}
+use Rattle.definitions.specs.Problem.Check.{symbolCount, nodeCount, symbolsOf, nodesOf, stands, symbolByteRight, firstWrong, termAsked, functionsIn, predicatesIn, refuseIf, refuseAt, checkConditions, refusalOf}
 use Rattle.theorems.proofs.Laws.Tests.{none≢some}
 
 abbrev pub AllNone : {A : Type 0} → List (Option A) → Type 0

@@ -1,37 +1,22 @@
 -- What decide's promise says of an answer, case by case: the lemmas below the top. Assumes nothing.
 use mathlib.Core.Path.{_≡_, refl, sym, ap, _∙_, subst}
-use Prim.Native.Nat.{ℕ, suc, _≤_, _<_}
-use native.Mathlib.Omega.{arith}
-use mathlib.Core.Bool.{Bool, true, false}
+use Prim.Native.Nat.{ℕ, _≤_, _<_}
+use mathlib.Core.Bool.{true, false}
 use mathlib.Core.List.{List, _++_}
 use mathlib.Core.Logic.{_↔_}
-use mathlib.Core.Option.{Option, none, some}
+use mathlib.Core.Option.{Option, none}
 use lib.ListN.{length, drop}
 use Rattle.definitions.specs.Problem.Check.{Refused}
-use Rattle.definitions.specs.Logic.{Interpretation, Valid, holds}
+use Rattle.definitions.specs.Logic.{Valid, holds}
 use Rattle.definitions.specs.Ranges.{product}
 use Rattle.definitions.specs.Places.{trueAt}
 use Rattle.definitions.specs.Verdict.{Outcome, valid, falsified, stopped, outcomeOf}
 use Rattle.definitions.specs.Witness.{tablesOf, witnessAt}
-use Rattle.definitions.specs.Operations.Answers.{
-  decideRefusal,
-  Answer,
-  refused,
-  given,
-  unless,
-  isValid,
-  isFalsified,
-  isStopped,
-  Decided,
-  decided,
-  decideAnswer,
-}
-use Rattle.definitions.specs.Operations.Buffers.{unlessRefused, workAfterDecide, witnessWritten, witnessAfter}
+use Rattle.definitions.specs.Operations.Answers.{decideRefusal, given, unless, isValid, isFalsified, isStopped, Decided, decided, decideAnswer}
+use Rattle.definitions.specs.Operations.Buffers.{unlessRefused, witnessWritten, witnessAfter}
 use Rattle.definitions.specs.Operations.Readings.{decisionRead}
 use Rattle.definitions.specs.Operations.Promises.{DecidePromise}
-use Rattle.definitions.specs.declared.Refusal.{Refusal}
 use Rattle.definitions.specs.declared.Decision.{Decision}
-use Rattle.theorems.proofs.Search.Verdict.{AllTrue, FirstFalse}
 use Rattle.theorems.proofs.Exactly.{
   Falsifiable,
   valid-sound,
@@ -43,7 +28,7 @@ use Rattle.theorems.proofs.Exactly.{
   valid-stays,
   falsified-stays,
 }
-use Rattle.theorems.proofs.Taken.{Taken, Answered, outcomeWith, taken, given-taken, answered}
+use Rattle.theorems.proofs.Taken.{Taken, taken, given-taken}
 use Rattle.theorems.proofs.Unique.{decision-apart}
 use Rattle.theorems.proofs.Witness.Falsifies.{witness-truth}
 

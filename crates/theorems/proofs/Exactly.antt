@@ -1,15 +1,15 @@
 -- What the verdicts mean, in terms of interpretations over the whole numbers, for an accepted problem (01, demand 3 and
 -- 'Verdicts'). Assumes nothing.
-use mathlib.Core.Path.{_≡_, refl, sym, ap, _∙_}
+use mathlib.Core.Path.{_≡_, sym, _∙_}
 use Prim.Native.Nat.{ℕ, _≤_, _<_}
 use native.Mathlib.Omega.{arith}
-use mathlib.Core.Bool.{Bool, true, false, false≢true}
-use mathlib.Core.Logic.{_↔_, _⊎_, inl, inr}
+use mathlib.Core.Bool.{false, false≢true}
+use mathlib.Core.Logic.{_↔_, inl, inr}
 use mathlib.Core.List.{List}
 use Rattle.definitions.specs.Logic.{Interpretation, holds, Valid}
 use Rattle.definitions.specs.Ranges.{product}
 use Rattle.definitions.specs.Places.{trueAt}
-use Rattle.definitions.specs.Verdict.{Outcome, valid, falsified, stopped, outcomeOf}
+use Rattle.definitions.specs.Verdict.{valid, falsified, stopped, outcomeOf}
 use Rattle.theorems.proofs.Accepted.{Accepted}
 use Rattle.theorems.proofs.Search.Verdict.{
   AllTrue,

@@ -1,16 +1,16 @@
 -- Every number fits the field that it is written in, for an accepted problem: the table in the work buffer, the nodes in eight
 -- bytes, the rows in the witness (01, 'Elimination' and 'Witness'). Assumes nothing.
-use mathlib.Core.Path.{_≡_, refl, sym, ap, _∙_, subst}
+use mathlib.Core.Path.{_≡_, refl, sym}
 use Prim.Native.Nat.{ℕ, zero, suc, pred, _+_, _*_, _≤_, _<_}
 use native.Mathlib.Omega.{arith}
-use mathlib.Core.Bool.{Bool, true, false, _&&_, cond, false≢true}
+use mathlib.Core.Bool.{Bool, true, false, cond, false≢true}
 use mathlib.Core.List.{List, [], _∷_, _++_, map, reverse}
 use mathlib.Core.Option.{Option, none, some}
 use lib.ListN.{length, getD, take, replicate, length-append, length-map, length-reverse}
 use lib.Seq.{length-take-le}
-use lib.Dec.{eqb, ltb}
+use lib.Dec.{eqb}
 use borrow.Author.Tests.{eqb-true}
-use Rattle.definitions.specs.Lists.{all, concatMap, countFrom, below, snoc}
+use Rattle.definitions.specs.Lists.{all, countFrom, snoc}
 use Rattle.definitions.specs.Problem.Node.{Node, node, nodeBytes, tableBytes, grown}
 use Rattle.definitions.specs.Problem.Ops.{
   Op,
@@ -33,11 +33,11 @@ use Rattle.definitions.specs.Problem.Ops.{
   fieldsOf,
 }
 use Rattle.definitions.specs.Problem.Check.{symbolCount, nodeCount, symbolsOf, nodesOf, functionsIn, predicatesIn}
-use Rattle.definitions.specs.Logic.{Interpretation, Value, number, numberOf, valueAt, numberAt, truthAt, opValue, nodeValue, values}
-use Rattle.definitions.specs.Elimination.{begin, steps, eliminated, tableOf}
+use Rattle.definitions.specs.Logic.{Interpretation, Value, numberOf, numberAt, truthAt, opValue, nodeValue, values}
+use Rattle.definitions.specs.Elimination.{eliminated, tableOf}
 use Rattle.definitions.specs.Ranges.{Variables, howMany, rank, joined, tops, topsOf, sizes, sizesOf}
-use Rattle.definitions.specs.Places.{assignment, digitsAt, digitsAfter, valuesAt}
-use Rattle.definitions.specs.Witness.{appRow, rowsAt, witnessAt, witnessBytes}
+use Rattle.definitions.specs.Places.{assignment, digitsAt, valuesAt}
+use Rattle.definitions.specs.Witness.{appRow, rowsAt}
 use Rattle.theorems.proofs.Laws.Tests.{and-left, and-right}
 use Rattle.theorems.proofs.Laws.Ops.{AllBelow, operands-sorted, operands-rest}
 use Rattle.theorems.proofs.Tables.Free.{Free, namesOf, free-named, free-fits}

@@ -1,36 +1,15 @@
 -- What an answer of decide says of the input: which refusals did not apply, and which outcome the search has. Assumes nothing.
-use mathlib.Core.Path.{_≡_, refl, sym, ap, _∙_, subst}
+use mathlib.Core.Path.{_≡_, refl, sym, ap, _∙_}
 use Prim.Native.Nat.{ℕ, _^_, _≤_}
 use native.Mathlib.Omega.{arith}
-use mathlib.Core.Bool.{Bool, true, false}
 use mathlib.Core.List.{List, [], _∷_}
 use mathlib.Core.Option.{Option, none, some}
-use lib.ListN.{length}
 use lib.Dec.{ltb}
 use borrow.Author.Tests.{ltb-false}
-use Rattle.definitions.specs.Problem.Check.{Refused, refuseIf, refusalOf}
+use Rattle.definitions.specs.Problem.Check.{Refused, refusalOf}
 use Rattle.definitions.specs.Ranges.{product}
 use Rattle.definitions.specs.Verdict.{Outcome, valid, falsified, stopped, outcomeOf}
-use Rattle.definitions.specs.Witness.{witnessAt}
-use Rattle.definitions.specs.Operations.Answers.{
-  shortWork,
-  shortWitness,
-  bigProduct,
-  eliminateRefusal,
-  buffersRefusal,
-  decideRefusal,
-  Answer,
-  refused,
-  given,
-  unless,
-  Verdict,
-  isValid,
-  isFalsified,
-  isStopped,
-  Decided,
-  decided,
-  decideAnswer,
-}
+use Rattle.definitions.specs.Operations.Answers.{shortWork, shortWitness, bigProduct, eliminateRefusal, buffersRefusal, decideRefusal, given, unless, Verdict, isValid, isFalsified, isStopped, Decided, decided, decideAnswer}
 use Rattle.theorems.proofs.Accepted.{Accepted, accepted, all-none, if-none}
 
 -- the input is taken: no refusal applies

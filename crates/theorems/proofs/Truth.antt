@@ -3,16 +3,16 @@
 use mathlib.Core.Path.{_≡_, refl, sym, ap, _∙_, subst, subst₂}
 use Prim.Native.Nat.{ℕ, zero, suc, _+_, _-_, _≤_, _<_}
 use native.Mathlib.Omega.{arith}
-use mathlib.Core.Bool.{Bool, true, false}
+use mathlib.Core.Bool.{Bool, false}
 use mathlib.Core.List.{List, [], _∷_, _++_, map}
 use lib.ListN.{length, getD, replicate}
-use Rattle.definitions.specs.Lists.{countFrom, below, productOf}
-use Rattle.definitions.specs.Problem.Node.{Node, node}
-use Rattle.definitions.specs.Problem.Ops.{Sort, term, formula, sameSort, opOf, sortOf}
+use Rattle.definitions.specs.Lists.{below}
+use Rattle.definitions.specs.Problem.Node.{Node}
+use Rattle.definitions.specs.Problem.Ops.{Sort, term, formula, sameSort}
 use Rattle.definitions.specs.Problem.Check.{symbolCount, nodeCount, symbolsOf, nodesOf, functionsIn, predicatesIn}
-use Rattle.definitions.specs.Logic.{Interpretation, Value, truthOf, valueAt, truthAt, values, holds}
-use Rattle.definitions.specs.Elimination.{begin, steps, eliminated, tableOf, rootOf}
-use Rattle.definitions.specs.Ranges.{linked, joined, rank, tops, topsOf, sizes, sizesOf, product}
+use Rattle.definitions.specs.Logic.{Interpretation, truthOf, valueAt, truthAt, values, holds}
+use Rattle.definitions.specs.Elimination.{eliminated, tableOf, rootOf}
+use Rattle.definitions.specs.Ranges.{linked, joined, rank, tops, topsOf, sizesOf, product}
 use Rattle.definitions.specs.Places.{digitsAt, assignment, valuesAt, trueAt}
 use Rattle.theorems.proofs.Laws.Ops.{sortAt}
 use Rattle.theorems.proofs.Tables.Free.{Free}
@@ -24,7 +24,7 @@ use Rattle.theorems.proofs.Elimination.WellLaid.{eliminated-free, image
 use Rattle.theorems.proofs.Elimination.OfAssignment.{built, built-value}
 use Rattle.theorems.proofs.Elimination.OfInterpretation.{assigned, assigned-value}
 use Rattle.theorems.proofs.Search.Places.{Positive, product-positive}
-use Rattle.theorems.proofs.Ranges.Adequate.{topsIn, adequate}
+use Rattle.theorems.proofs.Ranges.Adequate.{adequate}
 use Rattle.theorems.proofs.Accepted.{Accepted, length-nodesAt}
 
 positive-ranks : (J : ℕ → ℕ → Bool) (vs : List ℕ) → Positive (map (rank J) vs)

@@ -1,14 +1,12 @@
 -- The odometer on its way to the successor: the digits before i have gone back to 0, the others stand. Assumes nothing.
 use mathlib.Core.Path.{_≡_, refl, sym, ap, _∙_, subst}
-use Prim.Native.Nat.{ℕ, zero, suc, _+_, _-_, _≤_, _<_}
+use Prim.Native.Nat.{ℕ, suc, _+_, _≤_, _<_}
 use native.Mathlib.Omega.{arith}
-use native.Mathlib.Numerals.{add-one}
 use mathlib.Core.Bool.{true, false, false≢true}
 use mathlib.Core.List.{List}
-use mathlib.Core.Logic.{_⊎_, inl, inr}
+use mathlib.Core.Logic.{inl, inr}
 use lib.ListN.{length, getD, take, set, length-set}
 use lib.Seq.{getD-take, length-take-le, getD-set-same, getD-set-other}
-use Rattle.definitions.specs.Places.{next}
 use Rattle.theorems.proofs.Laws.Tests.{split}
 use Rattle.walk.specs.Digits.{digitsOf, sizesIn, Turning, NextIs}
 use Rattle.walk.specs.declared.odometer.Odometer.{Odometer}

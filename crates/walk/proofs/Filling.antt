@@ -3,11 +3,11 @@ use mathlib.Core.Path.{_≡_, refl, ap, sym, _∙_}
 use Prim.Native.Nat.{ℕ, _+_, _*_, _≤_, _<_}
 use native.Mathlib.Omega.{arith}
 use mathlib.Core.List.{List}
-use mathlib.Core.Logic.{_⊎_, inl, inr}
+use mathlib.Core.Logic.{inl, inr}
 use lib.ListN.{length, getD, set, length-set}
 use lib.Seq.{getD-set-same, getD-set-other}
 use Rattle.theorems.proofs.Laws.Tests.{split}
-use Rattle.walk.specs.Cells.{cell, Filled, PlacePut}
+use Rattle.walk.specs.Cells.{Filled, PlacePut}
 
 pub record Filling (ds : List ℕ) (from to least lane : ℕ) (before cells : List ℕ) (v : ℕ) : Type 0 where
   pub filled : Filled ds from v least lane before cells

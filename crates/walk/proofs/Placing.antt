@@ -4,12 +4,12 @@ use mathlib.Core.Path.{_≡_, refl, ap, sym, _∙_, subst}
 use Prim.Native.Nat.{ℕ, suc, _+_, _*_, _≤_, _<_}
 use native.Mathlib.Omega.{arith}
 use mathlib.Core.List.{List}
-use mathlib.Core.Logic.{_⊎_, inl, inr}
+use mathlib.Core.Logic.{inl, inr}
 use lib.ListN.{length, getD, take}
-use lib.Seq.{getD-take, length-take-le}
+use lib.Seq.{getD-take}
 use Rattle.definitions.specs.Places.{next, digitsAfter}
 use Rattle.theorems.proofs.Laws.Tests.{split}
-use Rattle.walk.specs.Cells.{cell, LaneHolds, PlacePut}
+use Rattle.walk.specs.Cells.{LaneHolds, PlacePut}
 use Rattle.walk.specs.Digits.{Turning, NextIs, PlacesLaid, digitsOf, sizesIn}
 use Rattle.walk.specs.declared.odometer.Odometer.{Odometer}
 use Rattle.walk.specs.declared.odometer.Step.{Step}

@@ -1,17 +1,12 @@
 -- Where every branch is solved, each lane has the values of its place: a node's branch takes what the node's op says. By
 -- induction on the node. Assumes nothing.
-use mathlib.Core.Path.{_≡_, refl, ap, sym, _∙_, subst}
-use Prim.Native.Nat.{ℕ, zero, suc, _+_, _*_, _≤_, _<_}
+use mathlib.Core.Path.{_≡_, refl, ap, sym, _∙_}
+use Prim.Native.Nat.{ℕ, zero, suc, _+_, _*_, _<_}
 use native.Mathlib.Omega.{arith}
-use mathlib.Core.Bool.{Bool, true, false}
 use mathlib.Core.List.{List}
-use mathlib.Core.Logic.{_⊎_, inl, inr}
 use lib.ListN.{getD}
-use lib.Dec.{eqb}
-use borrow.Author.Tests.{eqb-true, eqb-false}
 use Rattle.definitions.specs.Problem.Node.{Node, node}
 use Rattle.definitions.specs.Problem.Ops.{opOf}
-use Rattle.theorems.proofs.Laws.Tests.{split}
 use Rattle.ranges.specs.Table.{TableIn, tableIn}
 use Rattle.walk.specs.Cells.{cell, chosen, branchBy, branchOf, Decoded, Solved, Constant, LaneHolds}
 use Rattle.walk.specs.Digits.{Digits, valueIn}

@@ -1,27 +1,25 @@
 -- The value of one node of the table at an assignment, as a byte, from the bytes of the values before it. Assumes nothing.
-use mathlib.Core.Path.{_≡_, refl, sym, ap, ap₂, _∙_, subst}
-use Prim.Native.Nat.{ℕ, zero, suc, _+_, _*_, _-_, _≤_, _<_}
+use mathlib.Core.Path.{_≡_, refl, sym, ap, _∙_, subst}
+use Prim.Native.Nat.{ℕ, zero, suc, _+_, _*_, _<_}
 use native.Mathlib.Omega.{arith}
-use native.Mathlib.Numerals.{add-one}
 use mathlib.Core.Bool.{Bool, true, false, not, _&&_, _||_, cond, false≢true}
-use mathlib.Core.List.{List, [], _∷_, _++_, map, map-append}
+use mathlib.Core.List.{List, [], _∷_, map}
 use mathlib.Core.Option.{Option, none, some}
-use lib.ListN.{length, getD, take, set, List·getD-map}
-use lib.Seq.{getD-take, length-take-le, take-suc, take-suc-set}
+use lib.ListN.{length, getD, take}
+use lib.Seq.{getD-take, length-take-le}
 use lib.Dec.{eqb}
 use borrow.Author.Tests.{eq-eqb, ne-eqb}
-use Rattle.definitions.specs.Problem.Node.{Node, node, noNode, nodeAt, nodesAt}
+use Rattle.definitions.specs.Problem.Node.{Node, node, noNode, nodeAt}
 use Rattle.definitions.specs.Problem.Ops.{opOf, Sort, term, formula, sortOf, operandSorts, fits, countOf, fieldsOf}
-use Rattle.definitions.specs.Logic.{Interpretation, Value, number, truth, numberOf, truthOf, valueAt, numberAt, truthAt, opValue, nodeValue, values}
+use Rattle.definitions.specs.Logic.{Interpretation, Value, number, truth, numberOf, truthOf, valueAt, numberAt, truthAt, opValue, values}
 use Rattle.definitions.specs.Places.{assignment}
 use Rattle.definitions.specs.Witness.{byteOf}
 use Rattle.theorems.proofs.Accepted.{length-nodesAt}
 use Rattle.theorems.proofs.Laws.Ops.{Sorted, sortAt, operands-sorted, op-number, op-truth}
-use Rattle.theorems.proofs.Laws.Grown.{length-grown}
-use Rattle.theorems.proofs.Tables.Free.{Free, namesOf, free-named, free-fits, free-fixed}
+use Rattle.theorems.proofs.Tables.Free.{namesOf, free-named, free-fits, free-fixed}
 use Rattle.problem.proofs.NodeLaws.{node-nodesAt}
 use Rattle.ranges.specs.Table.{TableIn, tableIn}
-use Rattle.walk.specs.Digits.{Digits, ValuesAre, valueIn}
+use Rattle.walk.specs.Digits.{Digits, valueIn}
 
 -- a truth value as a byte
 abbrev pub bit : Bool → ℕ

@@ -6,17 +6,17 @@ use native.Mathlib.Omega.{arith}
 use native.Mathlib.Numerals.{add-one}
 use mathlib.Core.Bool.{Bool, true, false, false≢true}
 use mathlib.Core.List.{List, [], map}
-use mathlib.Core.Logic.{_⊎_, inl, inr}
-use lib.ListN.{length, getD, take, length-map, length-take, List·getD-map, getD-replicate, length-replicate, replicate}
+use mathlib.Core.Logic.{inl, inr}
+use lib.ListN.{length, getD, take, length-map, List·getD-map, getD-replicate, replicate}
 use lib.Seq.{getD-take, length-take-le, ext-getD}
-use Rattle.definitions.specs.Logic.{Value, number, values, nodeValue}
+use Rattle.definitions.specs.Logic.{number, values, nodeValue}
 use Rattle.definitions.specs.Places.{next, digitsAfter, digitsAt, assignment}
 use Rattle.definitions.specs.Witness.{byteOf}
 use Rattle.theorems.proofs.Accepted.{length-nodesAt}
 use Rattle.theorems.proofs.Laws.Grown.{length-grown}
 use Rattle.theorems.proofs.Laws.Tests.{split}
-use Rattle.theorems.proofs.Search.Places.{after-within, digits-length}
-use Rattle.theorems.proofs.Search.Verdict.{AllTrue, FirstFalse}
+use Rattle.theorems.proofs.Search.Places.{after-within}
+use Rattle.theorems.proofs.Search.Verdict.{AllTrue}
 use Rattle.ranges.specs.Table.{TableIn, tableIn}
 use Rattle.walk.specs.Cells.{cell, Decoded, LanesLaid, Solved, Constant, LaneHolds, FirstLane, LaneCopied}
 use Rattle.walk.specs.Digits.{Digits, ValuesAre, valueIn, Turning, NextIs, PlacesLaid, digitsOf, sizesIn}

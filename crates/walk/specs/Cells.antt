@@ -5,7 +5,7 @@ use Prim.Native.Nat.{ℕ, _+_, _*_, _≤_, _<_}
 use mathlib.Core.List.{List}
 use mathlib.Core.Bool.{true, false}
 use mathlib.Core.Logic.{_⊎_}
-use lib.ListN.{length, getD}
+use lib.ListN.{getD}
 use lib.Dec.{eqb}
 use Rattle.definitions.specs.Problem.Node.{Node, node}
 use Rattle.definitions.specs.Problem.Ops.{Op, apply, choose, equal, negate, both, either, test, verum, falsum, select, unknown, opOf}

@@ -4,7 +4,6 @@ use Prim.Native.Nat.{ℕ, _+_, _≤_, _<_}
 use mathlib.Core.List.{List, [], map}
 use mathlib.Core.Bool.{true, false}
 use lib.ListN.{length, getD, take}
-use Rattle.definitions.specs.Lists.{productOf}
 use Rattle.definitions.specs.Logic.{valueAt, values}
 use Rattle.definitions.specs.Places.{next, digitsAfter, assignment}
 use Rattle.definitions.specs.Witness.{byteOf}

@@ -11,7 +11,7 @@ use Rattle.definitions.specs.Places.{first, digitsAt, assignment}
 use Rattle.theorems.proofs.Laws.Ops.{sortAt}
 use Rattle.theorems.proofs.Search.Verdict.{AllTrue, FirstFalse}
 use Rattle.ranges.specs.Table.{tableIn}
-use Rattle.walk.specs.Digits.{Digits, ValuesAre, Turning, digitsOf, sizesIn}
+use Rattle.walk.specs.Digits.{ValuesAre, Turning, digitsOf, sizesIn}
 use Rattle.walk.specs.declared.odometer.Odometer.{Odometer}
 use Rattle.walk.specs.declared.Walked.{Walked}
 

@@ -1,8 +1,5 @@
 -- `decide` answers as promised: a refusal of check, of a short buffer, or what comes of laying and searching. Assumes nothing.
 use borrow.Author.Needs.{needs}
-use native.Mathlib.Omega.{arith}
-use mathlib.Core.Path.{_≡_}
-use Prim.Native.Nat.{ℕ}
 use lib.ListN.{length}
 use Rattle.elimination.proofs.Promising.{refused-by, not-refused, functions-answered, predicates-answered, refused-first, refused-short, taken}
 use Rattle.decision.proofs.Deciding.{refused-early, refused-witness, decide-refused}

@@ -1,12 +1,12 @@
 -- What check, eliminate, ranges and decide answer, in the paper's numbers: the first refusal whose condition holds, or the
 -- values (01, 'Refusal numbers', and the section of each operation). Assumes nothing.
 use Prim.Native.Nat.{ℕ, _^_}
-use mathlib.Core.List.{List, [], _∷_, _++_}
+use mathlib.Core.List.{List, [], _∷_}
 use mathlib.Core.Option.{Option, none, some}
 use lib.ListN.{length, replicate}
 use lib.Dec.{ltb}
 use Rattle.definitions.specs.Lists.{firstOf}
-use Rattle.definitions.specs.Problem.Check.{nodesOf, functionsIn, predicatesIn, Refused, refuseIf, checkConditions, refusalOf}
+use Rattle.definitions.specs.Problem.Check.{nodesOf, functionsIn, predicatesIn, Refused, refuseIf, refusalOf}
 use Rattle.definitions.specs.Elimination.{eliminated, tableOf, rootOf}
 use Rattle.definitions.specs.Ranges.{topsOf, product, padded}
 use Rattle.definitions.specs.Verdict.{Outcome, valid, falsified, stopped, outcomeOf}

@@ -1,8 +1,8 @@
 -- The call from the overnight rig: what it returns, and what it writes into the answer buffer (01, 'The job'; the layout is
 -- docs/FORMAT.md, 'The host's answer'). Assumes nothing.
 use Prim.Native.Nat.{ℕ}
-use mathlib.Core.List.{List, [], _∷_, _++_}
-use mathlib.Core.Bool.{Bool, true, false}
+use mathlib.Core.List.{List, _∷_, _++_}
+use mathlib.Core.Bool.{true, false}
 use lib.ListN.{length, replicate}
 use lib.Dec.{ltb}
 use Rattle.definitions.specs.Bytes.{bytesOf, two}

@@ -7,7 +7,7 @@ use lib.ListN.{length}
 use Rattle.definitions.specs.Operations.Answers.{checkAnswer, eliminateAnswer, rangesAnswer, decideAnswer}
 use Rattle.definitions.specs.Operations.Buffers.{workAfter, workAfterDecide, witnessAfter}
 use Rattle.definitions.specs.Operations.Readings.{checkedRead, eliminatedRead, rangesRead, decisionRead}
-use Rattle.definitions.specs.Operations.Host.{HostOutcome, hostOutcome}
+use Rattle.definitions.specs.Operations.Host.{hostOutcome}
 use Rattle.definitions.specs.declared.Checked.{Checked}
 use Rattle.definitions.specs.declared.Eliminated.{Eliminated}
 use Rattle.definitions.specs.declared.Ranges.{Ranges}

@@ -1,6 +1,5 @@
 -- The paper's number and values for each case of the answer enums (01, 'Where each form goes', last paragraph). The promises
 -- go through these readings. Assumes nothing.
-use mathlib.Core.List.{List}
 use Rattle.definitions.specs.Problem.Check.{Refused, refuse}
 use Rattle.definitions.specs.Operations.Answers.{
   Answer,

@@ -1,16 +1,16 @@
 -- The value of what elimination lays for an application: the choices pick among the own variables by the arguments.
 -- Assumes nothing.
-use mathlib.Core.Path.{_≡_, refl, sym, ap, ap₂, _∙_, subst}
-use Prim.Native.Nat.{ℕ, zero, suc, _+_, _-_, _≤_, _<_}
+use mathlib.Core.Path.{_≡_, refl, sym, ap, _∙_, subst}
+use Prim.Native.Nat.{ℕ, zero, suc, _<_}
 use native.Mathlib.Omega.{arith}
-use mathlib.Core.Bool.{Bool, true, false, not, _&&_, cond, and-assoc, and-true}
-use mathlib.Core.List.{List, [], _∷_, _++_, map, append-assoc, append-nil}
-use lib.ListN.{length, getD, take, drop, length-append, List·getD-append}
+use mathlib.Core.Bool.{Bool, true, false, _&&_, cond, and-assoc, and-true}
+use mathlib.Core.List.{List, [], _∷_, _++_, append-assoc, append-nil}
+use lib.ListN.{length, getD, length-append, List·getD-append}
 use lib.Seq.{getD-at}
 use lib.Dec.{eqb}
 use Rattle.definitions.specs.Lists.{snoc}
-use Rattle.definitions.specs.Problem.Node.{Node, node, plain}
-use Rattle.definitions.specs.Logic.{Interpretation, Value, number, truth, numberOf, truthOf, numberAt, truthAt, opValue, nodeValue, values}
+use Rattle.definitions.specs.Problem.Node.{Node, plain}
+use Rattle.definitions.specs.Logic.{Interpretation, Value, number, truth, numberOf, truthOf, numberAt, truthAt, nodeValue, values}
 use Rattle.definitions.specs.Elimination.{App, last, further, condition, choiceOp, choices}
 use Rattle.theorems.proofs.Laws.Grown.{grown-append, length-grown, grown-prefix}
 

@@ -10,7 +10,7 @@ use mathlib.Core.Option.{Option, none, some}
 use lib.ListN.{length}
 use lib.Dec.{eqb}
 use borrow.Author.Tests.{eqb-true}
-use Rattle.definitions.specs.Lists.{any, keep, keepIf, snoc}
+use Rattle.definitions.specs.Lists.{any, keepIf, snoc}
 use Rattle.definitions.specs.Problem.Node.{Node, same}
 use Rattle.definitions.specs.Problem.Ops.{opOf, isApp}
 use Rattle.definitions.specs.Problem.Check.{distinct, functionsIn, predicatesIn}

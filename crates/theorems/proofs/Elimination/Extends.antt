@@ -1,13 +1,10 @@
 -- Elimination only adds: the table and the images of a state start those of every later state. Assumes nothing.
 use mathlib.Core.Path.{_≡_, refl, sym, ap, _∙_}
 use Prim.Native.Nat.{ℕ}
-use mathlib.Core.Bool.{Bool, true, false}
 use mathlib.Core.List.{List, [], _∷_, _++_, append-nil, append-assoc}
-use mathlib.Core.Option.{Option, none, some}
 use lib.ListN.{length}
 use Rattle.definitions.specs.Lists.{snoc, keep}
 use Rattle.definitions.specs.Problem.Node.{Node, plain}
-use Rattle.definitions.specs.Problem.Ops.{opOf, isApp}
 use Rattle.definitions.specs.Elimination.{
   App,
   State,

@@ -1,11 +1,11 @@
 -- Every assignment of the function-free table comes from an interpretation: a symbol at some arguments has the value of the
 -- earliest application that has these arguments, and what no application lists is 0 or false. Assumes nothing.
 use mathlib.Core.Path.{_≡_, refl, sym, ap, ap₂, _∙_, subst}
-use Prim.Native.Nat.{ℕ, zero, suc}
-use mathlib.Core.Bool.{Bool, true, false, _&&_, false≢true}
+use Prim.Native.Nat.{ℕ}
+use mathlib.Core.Bool.{Bool, true, false, _&&_}
 use mathlib.Core.List.{List, [], _∷_, _++_, map, append-assoc}
 use mathlib.Core.Logic.{inl, inr}
-use mathlib.Core.Option.{Option, none, some}
+use mathlib.Core.Option.{none}
 use lib.ListN.{length, getD}
 use lib.Dec.{eqb}
 use borrow.Author.Tests.{eqb-true, eq-eqb}
@@ -15,12 +15,12 @@ use Rattle.definitions.specs.Problem.Node.{Node}
 use Rattle.definitions.specs.Problem.Ops.{opOf, isApp}
 use Rattle.definitions.specs.Problem.Check.{firstWrong}
 use Rattle.definitions.specs.Logic.{Interpretation, Value, number, truth, numberOf, truthOf, valueAt, numberAt, opValue, values}
-use Rattle.definitions.specs.Elimination.{App, State, begin, imagesOf, sameSymbol, earliest, appStep, copy, step, steps}
+use Rattle.definitions.specs.Elimination.{App, State, begin, imagesOf, sameSymbol, steps}
 use Rattle.theorems.proofs.Laws.Tests.{and-left}
 use Rattle.theorems.proofs.Elimination.Chosen.{chosen, sameList, pickValue, Kind}
 use Rattle.theorems.proofs.Laws.Ops.{app-op}
 use Rattle.theorems.proofs.Elimination.Steps.{step-cases, steps-keep}
-use Rattle.theorems.proofs.Elimination.Variables.{variableValue, variable-kind, app-kind, as-number, as-truth, same-list, same-list-self}
+use Rattle.theorems.proofs.Elimination.Variables.{variableValue, variable-kind, as-number, as-truth, same-list-self}
 use Rattle.theorems.proofs.Elimination.Valued.{qs}
 use Rattle.theorems.proofs.Elimination.Images.{Accord, SameAll, image-value}
 

@@ -1,12 +1,12 @@
 -- Every interpretation gives an assignment of the function-free table: each variable has the value of its application.
 -- Assumes nothing.
 use mathlib.Core.Path.{_≡_, refl, sym, ap, ap₂, _∙_, subst}
-use Prim.Native.Nat.{ℕ, zero, suc, _+_, _≤_, _<_}
+use Prim.Native.Nat.{ℕ, suc, _+_, _<_}
 use native.Mathlib.Omega.{arith}
-use mathlib.Core.Bool.{Bool, true, false, _&&_, false≢true}
+use mathlib.Core.Bool.{Bool, true, false, _&&_}
 use mathlib.Core.List.{List, [], _∷_, _++_, map, append-assoc}
 use mathlib.Core.Logic.{inl, inr}
-use mathlib.Core.Option.{Option, none, some}
+use mathlib.Core.Option.{none}
 use lib.ListN.{length, getD, length-append}
 use lib.Dec.{eqb}
 use borrow.Author.Tests.{eqb-true, eq-eqb}
@@ -15,12 +15,12 @@ use Rattle.definitions.specs.Problem.Node.{Node}
 use Rattle.definitions.specs.Problem.Ops.{opOf, isApp}
 use Rattle.definitions.specs.Problem.Check.{firstWrong}
 use Rattle.definitions.specs.Logic.{Interpretation, Value, number, truth, numberOf, truthOf, valueAt, numberAt, opValue, values}
-use Rattle.definitions.specs.Elimination.{App, State, begin, imagesOf, sameSymbol, sameOp, nextVar, earliest, appStep, copy, step, steps}
+use Rattle.definitions.specs.Elimination.{App, State, begin, sameSymbol, sameOp, steps}
 use Rattle.theorems.proofs.Laws.Tests.{and-left, and-right}
 use Rattle.theorems.proofs.Elimination.Chosen.{chosen, sameList, pickValue, Kind}
 use Rattle.theorems.proofs.Laws.Ops.{app-op, app-alike}
 use Rattle.theorems.proofs.Elimination.Steps.{step-cases, steps-keep}
-use Rattle.theorems.proofs.Elimination.Variables.{variableValue, variable-kind, app-kind, as-number, as-truth, same-list, same-list-self}
+use Rattle.theorems.proofs.Elimination.Variables.{variableValue, app-kind, as-number, as-truth, same-list}
 use Rattle.theorems.proofs.Elimination.Valued.{qs, own}
 use Rattle.theorems.proofs.Elimination.Images.{Accord, image-value}
 use Rattle.theorems.proofs.Elimination.OfAssignment.{AllApp, steps-apps, keep-append}

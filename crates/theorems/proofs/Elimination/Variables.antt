@@ -3,8 +3,8 @@
 use mathlib.Core.Path.{_≡_, refl, sym, ap₂, _∙_}
 use Prim.Native.Nat.{ℕ, zero, suc}
 use native.Mathlib.Omega.{arith}
-use mathlib.Core.Bool.{Bool, true, false, _&&_, false≢true}
-use mathlib.Core.List.{List, [], _∷_, map}
+use mathlib.Core.Bool.{true, _&&_, false≢true}
+use mathlib.Core.List.{List, [], _∷_}
 use mathlib.Core.Logic.{inl, inr}
 use mathlib.Core.Option.{Option, none, some}
 use lib.ListN.{length, take, length-take}
@@ -12,7 +12,7 @@ use lib.Dec.{eqb}
 use borrow.Author.Tests.{eqb-true, eq-eqb}
 use Rattle.definitions.specs.Problem.Node.{Node}
 use Rattle.definitions.specs.Problem.Ops.{opOf, Sort, fits, countOf, fieldsOf, isApp}
-use Rattle.definitions.specs.Logic.{Interpretation, Value, number, truth, numberOf, truthOf, numberAt, opValue, nodeValue}
+use Rattle.definitions.specs.Logic.{Interpretation, Value, number, truth, numberOf, truthOf, opValue, nodeValue}
 use Rattle.definitions.specs.Elimination.{variableNode}
 use Rattle.theorems.proofs.Laws.Tests.{and-left, and-right}
 use Rattle.theorems.proofs.Laws.Ops.{app-op}

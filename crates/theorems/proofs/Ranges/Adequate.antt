@@ -6,7 +6,7 @@ use Prim.Native.Nat.{ℕ, zero, suc, pred, _+_, _≤_, _<_}
 use native.Mathlib.Omega.{arith}
 use mathlib.Core.Bool.{Bool, true, false}
 use mathlib.Core.List.{List, [], _∷_, _++_, map}
-use lib.ListN.{length, getD, replicate, length-append, length-map, List·getD-append}
+use lib.ListN.{length, getD, replicate, length-map, List·getD-append}
 use lib.Seq.{getD-append-add}
 use lib.Dec.{eqb}
 use Rattle.definitions.specs.Lists.{countFrom, below, productOf}
@@ -14,7 +14,7 @@ use Rattle.definitions.specs.Problem.Node.{Node}
 use Rattle.definitions.specs.Problem.Ops.{formula}
 use Rattle.definitions.specs.Logic.{Interpretation, truthOf, truthAt, values}
 use Rattle.definitions.specs.Ranges.{linked, rank, sizes}
-use Rattle.definitions.specs.Places.{digitsAt, digitsAfter, assignment}
+use Rattle.definitions.specs.Places.{digitsAt, assignment}
 use Rattle.theorems.proofs.Laws.Ops.{sortAt}
 use Rattle.theorems.proofs.Tables.Free.{Free}
 use Rattle.theorems.proofs.Ranges.Renaming.{Equivalence, renamed, renamed-low, renamed-high}

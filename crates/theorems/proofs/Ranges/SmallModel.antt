@@ -6,25 +6,13 @@ use native.Mathlib.Omega.{arith}
 use mathlib.Core.Bool.{Bool, true, false, _&&_, _||_, cond, false≢true}
 use mathlib.Core.Logic.{_⊎_, inl, inr}
 use mathlib.Core.List.{List, [], _∷_, map}
-use mathlib.Core.Option.{Option, none, some}
+use mathlib.Core.Option.{Option, some}
 use lib.ListN.{length, getD, take}
 use lib.Seq.{getD-take, length-take-le}
 use lib.Dec.{eqb}
 use borrow.Author.Tests.{eqb-true, eq-eqb}
 use Rattle.definitions.specs.Problem.Node.{Node, node, noNode, grown}
-use Rattle.definitions.specs.Problem.Ops.{
-  Op,
-  opOf,
-  Sort,
-  term,
-  formula,
-  sortOf,
-  operandSorts,
-  fits,
-  countOf,
-  fieldsOf,
-  isApp,
-}
+use Rattle.definitions.specs.Problem.Ops.{opOf, Sort, term, formula, sortOf, operandSorts, fits, countOf, fieldsOf, isApp}
 use Rattle.definitions.specs.Logic.{Interpretation, Value, number, truth, numberOf, truthOf, valueAt, numberAt, truthAt, opValue, values}
 use Rattle.definitions.specs.Ranges.{Variables, noVariable, opLeaves, nodeLeaves, leaf, links, linked}
 use Rattle.theorems.proofs.Laws.Tests.{or-left, or-right, and-intro, same-test, split}

@@ -3,31 +3,14 @@
 use mathlib.Core.Path.{_≡_, refl, sym, ap, _∙_, subst}
 use Prim.Native.Nat.{ℕ, zero, suc, _≤_, _<_}
 use native.Mathlib.Omega.{arith}
-use mathlib.Core.Bool.{Bool, true, false, _&&_, false≢true}
+use mathlib.Core.Bool.{Bool, true, false}
 use mathlib.Core.List.{List, [], _∷_, _++_, map, append-nil, append-assoc}
 use mathlib.Core.Option.{Option, none, some}
-use lib.ListN.{length, getD, take, replicate}
+use lib.ListN.{length, take, replicate}
 use lib.Seq.{getD-take, length-take-le}
 use Rattle.definitions.specs.Lists.{snoc}
 use Rattle.definitions.specs.Problem.Node.{Node, node, noNode}
-use Rattle.definitions.specs.Problem.Ops.{
-  Op,
-  opOf,
-  arity,
-  Sort,
-  term,
-  sortOf,
-  operandSorts,
-  operandsRight,
-  symbolRight,
-  fits,
-  nodeRight,
-  sortsOf,
-  countOf,
-  fieldsOf,
-  operandsOf,
-  isApp,
-}
+use Rattle.definitions.specs.Problem.Ops.{opOf, arity, Sort, term, sortOf, symbolRight, fits, nodeRight, sortsOf, countOf, fieldsOf, operandsOf, isApp}
 use Rattle.definitions.specs.Problem.Check.{firstWrong}
 use Rattle.definitions.specs.Logic.{Interpretation, Value, number, numberOf, valueAt, numberAt, opValue, nodeValue, values}
 use Rattle.definitions.specs.Elimination.{nodeOn}

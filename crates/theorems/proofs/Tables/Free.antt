@@ -1,38 +1,19 @@
 -- Function-free tables: what it is for one to be well formed, with so many variables and truth variables. Operands are earlier
 -- nodes of the sorts asked, and variable numbers are below the counts. Assumes nothing.
-use mathlib.Core.Path.{_≡_, ap, sym, _∙_, subst}
+use mathlib.Core.Path.{_≡_, sym, subst}
 use Prim.Native.Nat.{ℕ, _<_}
 use native.Mathlib.Omega.{arith}
 use mathlib.Core.Bool.{Bool, true, _&&_}
 use mathlib.Core.List.{List, []}
 use lib.ListN.{length, take}
-use lib.Seq.{getD-take, length-take-le}
+use lib.Seq.{length-take-le}
 use lib.Dec.{ltb}
 use borrow.Author.Tests.{ltb-true}
-use Rattle.definitions.specs.Problem.Node.{Node, node, noNode}
-use Rattle.definitions.specs.Problem.Ops.{
-  Op,
-  apply,
-  choose,
-  equal,
-  negate,
-  both,
-  either,
-  test,
-  verum,
-  falsum,
-  select,
-  unknown,
-  opOf,
-  operandSorts,
-  fits,
-  fieldsOf,
-  sortOf,
-  operandsOf,
-}
+use Rattle.definitions.specs.Problem.Node.{Node, node}
+use Rattle.definitions.specs.Problem.Ops.{Op, apply, choose, equal, negate, both, either, test, verum, falsum, select, unknown, opOf, operandSorts, fits, fieldsOf, operandsOf}
 use Rattle.definitions.specs.Logic.{Interpretation, valueAt, nodeValue, values}
 use Rattle.theorems.proofs.Laws.Tests.{and-left, and-right}
-use Rattle.theorems.proofs.Laws.Ops.{AllBelow, fits-below, sortAt}
+use Rattle.theorems.proofs.Laws.Ops.{AllBelow, fits-below}
 use Rattle.theorems.proofs.Tables.Fixed.{value-fixed}
 
 -- how many symbols a node of an op may name: the variables, the truth variables, and else 0 alone

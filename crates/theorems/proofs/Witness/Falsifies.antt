@@ -1,14 +1,13 @@
 -- A witness written at a false place makes the original formula false, read back from its bytes and whatever stands after them
 -- (01, demand 2). Assumes nothing.
-use mathlib.Core.Path.{_≡_, refl, sym, ap, _∙_}
-use Prim.Native.Nat.{ℕ, _+_, _*_, _-_, _≤_}
+use mathlib.Core.Path.{_≡_, sym, ap, _∙_}
+use Prim.Native.Nat.{ℕ, _≤_}
 use native.Mathlib.Omega.{arith}
-use mathlib.Core.Bool.{Bool, false}
 use mathlib.Core.List.{List, _++_}
-use lib.ListN.{length, drop}
-use Rattle.definitions.specs.Problem.Check.{symbolsOf, nodesOf, functionsIn}
+use lib.ListN.{length}
+use Rattle.definitions.specs.Problem.Check.{symbolsOf, nodesOf}
 use Rattle.definitions.specs.Logic.{Interpretation, truthOf, truthAt, holds}
-use Rattle.definitions.specs.Elimination.{eliminated, tableOf, rootOf}
+use Rattle.definitions.specs.Elimination.{eliminated}
 use Rattle.definitions.specs.Places.{assignmentAt, valuesAt, trueAt}
 use Rattle.definitions.specs.Witness.{tables, tablesOf, rowsAt, witnessAt}
 use Rattle.theorems.proofs.Accepted.{Accepted}

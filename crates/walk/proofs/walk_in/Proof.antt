@@ -3,8 +3,8 @@
 use borrow.Author.Needs.{needs}
 use native.Mathlib.Omega.{arith}
 use mathlib.Core.Path.{_≡_, refl, sym, _∙_}
-use Prim.Native.Nat.{ℕ, _-_}
-use lib.ListN.{length, length-replicate}
+use Prim.Native.Nat.{_-_}
+use lib.ListN.{length}
 use Rattle.walk.proofs.Branching.{ordered}
 use Rattle.walk.proofs.Walking.{Walking, sets-out, lanes-few, constant-laid, falsifies, goes-on, ends-walk}
 use Rattle.walk.proofs.walk_in.Statement.{statement}

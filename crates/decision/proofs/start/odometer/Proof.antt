@@ -1,7 +1,6 @@
 -- The odometer at place 1: the loop fills the sizes, and every digit is 0. Assumes nothing.
 use native.Mathlib.Omega.{arith}
-use Prim.Native.Nat.{_+_, _-_}
-use mathlib.Core.Path.{sym, _∙_}
+use Prim.Native.Nat.{_-_}
 use Rattle.decision.proofs.Beginning.{Sized, sized-none, sized-more, beginning}
 use Rattle.decision.proofs.start.odometer.Statement.{statement}
 use Rattle.decision.proofs.start.odometer.Tie as tie

@@ -2,7 +2,6 @@
 use borrow.Author.Needs.{needs}
 use native.Mathlib.Omega.{arith}
 use Prim.Native.Nat.{ℕ, _<_}
-use mathlib.Core.List.{List}
 use lib.ListN.{length, take}
 use lib.Seq.{sets, lt-length-sets, sets-eq}
 use Rattle.decision.specs.Rows.{headBytes}

@@ -1,6 +1,6 @@
 -- `value_at` reads the value of the node whose number it reads. Assumes nothing.
 use borrow.Author.Needs.{needs}
-use mathlib.Core.Path.{_≡_, ap}
+use mathlib.Core.Path.{ap}
 use lib.ListN.{getD}
 use Rattle.decision.proofs.witness.value_at.Statement.{statement}
 use Rattle.decision.proofs.witness.value_at.Tie as tie

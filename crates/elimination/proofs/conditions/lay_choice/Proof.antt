@@ -3,9 +3,9 @@
 use borrow.Author.Needs.{needs}
 use native.Mathlib.Omega.{arith}
 use mathlib.Core.Path.{_≡_, ap₂}
-use Prim.Native.Nat.{ℕ, _-_}
+use Prim.Native.Nat.{ℕ}
 use lib.ListN.{take}
-use Rattle.definitions.specs.Problem.Node.{Node, plain}
+use Rattle.definitions.specs.Problem.Node.{plain}
 use Rattle.definitions.specs.Elimination.{last, condition}
 use Rattle.elimination.proofs.Laying.{lays-node}
 use Rattle.elimination.proofs.conditions.lay_choice.Statement.{statement}

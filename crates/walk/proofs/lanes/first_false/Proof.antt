@@ -2,7 +2,7 @@
 -- Assumes nothing.
 use native.Mathlib.Omega.{arith}
 use mathlib.Core.Path.{_≡_}
-use Prim.Native.Nat.{ℕ, _+_, _-_, _≤_, _<_}
+use Prim.Native.Nat.{ℕ, _+_, _-_, _<_}
 use borrow.Author.Count.{below-more}
 use Rattle.walk.specs.Cells.{cell}
 use Rattle.walk.proofs.lanes.first_false.Statement.{statement}

@@ -1,8 +1,7 @@
 -- The digits go on to their successor: the loop keeps that those before i were at their tops and have gone back to 0.
 -- Assumes nothing.
-use borrow.Author.Needs.{needs}
 use native.Mathlib.Omega.{arith}
-use mathlib.Core.Path.{_≡_, sym, _∙_}
+use mathlib.Core.Path.{sym, _∙_}
 use Prim.Native.Nat.{_-_}
 use lib.ListN.{length-set}
 use Rattle.walk.proofs.Carrying.{Carrying, begins, digit-below, turned, wrapped, carries}

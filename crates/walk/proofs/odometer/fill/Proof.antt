@@ -2,7 +2,6 @@
 -- Assumes nothing.
 use borrow.Author.Needs.{needs}
 use native.Mathlib.Omega.{arith}
-use mathlib.Core.Path.{_≡_, sym, _∙_}
 use Prim.Native.Nat.{_-_}
 use Rattle.walk.proofs.Filling.{Filling, filling-begins, filling-more, filling-ends}
 use Rattle.walk.proofs.odometer.fill.Statement.{statement}

@@ -1,7 +1,6 @@
 -- The variables' digits and then the truth variables' go to the lane. Assumes nothing.
 use borrow.Author.Needs.{needs}
 use native.Mathlib.Omega.{arith}
-use mathlib.Core.Path.{_≡_, _∙_}
 use Rattle.walk.proofs.Filling.{place-put}
 use Rattle.walk.proofs.odometer.put_place.Statement.{statement}
 use Rattle.walk.proofs.odometer.put_place.Tie as tie

@@ -2,7 +2,7 @@
 -- Assumes nothing.
 use borrow.Author.Needs.{needs}
 use native.Mathlib.Omega.{arith}
-use mathlib.Core.Path.{_≡_, sym, _∙_}
+use mathlib.Core.Path.{_∙_}
 use Prim.Native.Nat.{_-_}
 use Rattle.walk.proofs.Placing.{Placing, digit-small, placing-begins, placing-more, placing-ends}
 use Rattle.walk.proofs.odometer.Odometer.lay.Statement.{statement}
