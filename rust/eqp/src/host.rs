@@ -120,34 +120,34 @@ mod call {
 mod tests {
     use super::*;
 
+    /// The answer stands for 32 zeros but for these bytes, and they for it.
+    fn expect(answer: Answer, set: &[(usize, u8)]) {
+        let mut bytes = [0; ANSWER_LEN];
+        for &(at, byte) in set {
+            bytes[at] = byte;
+        }
+        assert_eq!(encode(&answer), bytes);
+        assert_eq!(decode(&bytes), Some(answer));
+    }
+
     /// The bytes of row 5's answer, from the table in docs/FORMAT.md.
     #[test]
     fn falsified_bytes() {
-        let mut bytes = [0; ANSWER_LEN];
-        bytes[0] = 2;
-        bytes[6] = 26;
-        bytes[16] = 2;
-        bytes[24] = 4;
         let answer = Answer::Falsified {
             tried: 2,
             product: 4,
             witness_len: 26,
         };
-        assert_eq!(encode(&answer), bytes);
-        assert_eq!(decode(&bytes), Some(answer));
+        expect(answer, &[(0, 2), (6, 26), (16, 2), (24, 4)]);
     }
 
     #[test]
     fn refused_bytes() {
-        let mut bytes = [0; ANSWER_LEN];
-        bytes[1] = 7;
-        bytes[8] = 255;
         let answer = Answer::Refused {
             number: 7,
             place: 255,
         };
-        assert_eq!(encode(&answer), bytes);
-        assert_eq!(decode(&bytes), Some(answer));
+        expect(answer, &[(1, 7), (8, 255)]);
     }
 
     #[test]

@@ -16,12 +16,13 @@ use Rattle.definitions.specs.Problem.Node.{Node, node, noNode}
 use Rattle.definitions.specs.Problem.Ops.{opOf, isApp, arity, Sort, sortOf, operandSorts, fits, sortsOf, countOf, fieldsOf, operandsOf}
 use Rattle.definitions.specs.Problem.Check.{firstWrong}
 use Rattle.definitions.specs.Elimination.{App, State, imagesOf, last, sameSymbol, nextVar, variableNode, nodeOn, earliest}
-use Rattle.definitions.specs.Elimination.{applied, addApp, repeat, appStep, copy, step}
+use Rattle.definitions.specs.Elimination.{applied, addApp, repeat, copy, step}
 use Rattle.theorems.proofs.Laws.Tests.{and-left, and-right, split}
 use Rattle.theorems.proofs.Laws.Ops.{sortAt}
 use Rattle.theorems.proofs.Tables.Fixed.{right-at, right-fits}
 use Rattle.theorems.proofs.Tables.Free.{Free}
 use Rattle.theorems.proofs.Elimination.Extends.{Starts}
+use Rattle.theorems.proofs.Elimination.Steps.{step-cases}
 use Rattle.theorems.proofs.Elimination.Repeats.{found, not-found}
 use Rattle.theorems.proofs.Elimination.Variables.{no-operands, count-zero, take-many}
 use Rattle.theorems.proofs.Elimination.Grows.{Stands, Terms, Grows, node-kept, node-sort, stands-kept, stays, stays-terms, join}
@@ -249,13 +250,4 @@ module _ (symbols : List ℕ) (T : List Node) (right : firstWrong symbols [] T �
           )
 
     pub step-ok : Inv (step symbols st n) ns
-    step-ok = go (isApp (opOf (n .op))) refl
-      where
-        find : (o : Option ℕ) → earliest n (st .done) (st .images) ≡ o → isApp (opOf (n .op)) ≡ true → Inv (appStep symbols st n o) ns
-        find (some i) e p = repeat-ok i e
-        find none e p = add-ok p e
-
-        go : (b : Bool) → isApp (opOf (n .op)) ≡ b
-            → Inv (elim b [ true ↦ appStep symbols st n (earliest n (st .done) (st .images)) | false ↦ copy symbols st n ]) ns
-        go true p = find (earliest n (st .done) (st .images)) refl p
-        go false p = copy-ok p
+    step-ok = step-cases symbols st n (λ F. Inv F ns) copy-ok repeat-ok add-ok

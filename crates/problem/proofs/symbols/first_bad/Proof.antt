@@ -1,35 +1,27 @@
 -- The first symbol byte that is none is found: the loop keeps that the search from symbol k on finds what the whole search finds.
 -- Assumes nothing.
 use mathlib.Core.Path.{_≡_, refl, sym, ap, _∙_}
-use Prim.Native.Nat.{ℕ, suc, _+_, _-_, _≤_, _<_}
+use Prim.Native.Nat.{ℕ, _+_, _-_, _≤_, _<_}
 use native.Mathlib.Omega.{arith}
-use native.Mathlib.Numerals.{add-one}
-use mathlib.Core.Bool.{Bool, true, false}
+use mathlib.Core.Bool.{true, false}
 use mathlib.Core.List.{List}
 use mathlib.Core.Option.{none, some}
-use lib.ListN.{length, getD, drop, length-drop, drop-of-length-le}
-use lib.Seq.{drop-cons, getD-take, getD-drop, length-take-le}
+use lib.ListN.{length, getD, drop, length-drop}
+use lib.Seq.{getD-take, getD-drop, length-take-le}
 use borrow.Author.Tests.{not-true, not-false}
 use Rattle.definitions.specs.Lists.{firstFailing}
 use Rattle.definitions.specs.Bytes.{byteAt}
 use Rattle.definitions.specs.Problem.Check.{symbolCount, symbolsOf, symbolByteRight}
+use Rattle.problem.proofs.Scans.{failingFrom, fails-here, fails-later, fails-nowhere}
 use Rattle.problem.proofs.symbols.first_bad.Statement.{statement}
 use Rattle.problem.proofs.symbols.first_bad.Tie as tie
-
--- a search that has come to member k of a list, by whether the member passes
-module _ {A : Type 0} (f : A → Bool) (xs : List A) (k : ℕ) (d : A) (h : k < length xs) where
-  fails-at : f (getD xs k d) ≡ false → firstFailing f k (drop k xs) ≡ some k
-  fails-at e = rw (drop-cons xs k d, e, firstFailing)
-
-  passes-at : f (getD xs k d) ≡ true → firstFailing f k (drop k xs) ≡ firstFailing f (suc k) (drop (suc k) xs)
-  passes-at e = rw (drop-cons xs k d, e, firstFailing)
 
 -- the symbols before symbol k are right: the search from symbol k on finds what the whole search finds
 record Searching (s : List ℕ) (symbols k : ℕ) : Type 0 where
   count : symbols ≡ symbolCount s
   fits : 8 + symbols ≤ length s
   within : k ≤ symbols
-  same : firstFailing symbolByteRight k (drop k (symbolsOf s)) ≡ firstFailing symbolByteRight 0 (symbolsOf s)
+  same : failingFrom symbolByteRight (symbolsOf s) k ≡ firstFailing symbolByteRight 0 (symbolsOf s)
 
 symbols-length : (s : List ℕ) → 8 + symbolCount s ≤ length s → length (symbolsOf s) ≡ symbolCount s
 symbols-length s h = length-take-le (symbolCount s) (drop 8 s) (omega (arith, length-drop 8 s))
@@ -38,7 +30,7 @@ module _ {s : List ℕ} {symbols k : ℕ} (g : Searching s symbols k) where
   finds-nothing : symbols ≤ k → none ≡ firstFailing symbolByteRight 0 (symbolsOf s)
   finds-nothing h =
       let past : length (symbolsOf s) ≤ k = omega (arith, symbols-length s (omega arith)) in
-      sym (ap (firstFailing symbolByteRight k) (drop-of-length-le (symbolsOf s) past)) ∙ g .same
+      sym (fails-nowhere symbolByteRight (symbolsOf s) k past) ∙ g .same
 
   module _ (h : k < symbols) where
     inside : k < length (symbolsOf s)
@@ -49,12 +41,12 @@ module _ {s : List ℕ} {symbols k : ℕ} (g : Searching s symbols k) where
     symbol-at = let few : k < symbolCount s = omega arith in rw (getD-take, getD-drop)
 
     finds : symbolByteRight (byteAt s (8 + k)) ≡ false → some k ≡ firstFailing symbolByteRight 0 (symbolsOf s)
-    finds e = sym (fails-at symbolByteRight (symbolsOf s) k 0 inside (ap symbolByteRight symbol-at ∙ e)) ∙ g .same
+    finds e = sym (fails-here symbolByteRight (symbolsOf s) 0 k inside (ap symbolByteRight symbol-at ∙ e)) ∙ g .same
 
     passes : symbolByteRight (byteAt s (8 + k)) ≡ true → Searching s symbols (k + 1)
     passes e =
-        let next = passes-at symbolByteRight (symbolsOf s) k 0 inside (ap symbolByteRight symbol-at ∙ e) in
-        record { count = g .count; fits = g .fits; within = omega arith; same = rw add-one (sym next ∙ g .same) }
+        let next = fails-later symbolByteRight (symbolsOf s) 0 k inside (ap symbolByteRight symbol-at ∙ e) in
+        record { count = g .count; fits = g .fits; within = omega arith; same = sym next ∙ g .same }
 
 abbrev Inv-loop : tie.InvT-loop
 Inv-loop s symbols k₀ k = Searching s symbols k
