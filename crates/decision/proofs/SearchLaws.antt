@@ -22,7 +22,8 @@ use Rattle.theorems.proofs.Laws.Grown.{length-grown}
 use Rattle.theorems.proofs.Ranges.Adequate.{length-below}
 use Rattle.theorems.proofs.Truth.{root-within, root-formula}
 use Rattle.theorems.proofs.Fits.{howMany-le}
-use Rattle.theorems.proofs.Search.Verdict.{AllTrue, valid-when, falsified-when, stopped-when}
+use Rattle.theorems.specs.Searched.{AllTrue}
+use Rattle.theorems.proofs.Search.Verdict.{valid-when, falsified-when, stopped-when}
 use Rattle.elimination.specs.declared.laid.Laid.{Laid}
 use Rattle.elimination.proofs.Promising.{nodes-laid, root-laid}
 use Rattle.ranges.specs.Table.{tableIn, TableIn}

@@ -1,5 +1,5 @@
--- What is left of a scan from a place on: the first that fails a test, the first wrong node, the distinct applications. One more
--- place either ends the scan or leaves what is left after it. Assumes nothing.
+-- What is left of a scan from a place on: the first node that is the same, the distinct applications. One more place either ends the
+-- scan or leaves what is left after it. Assumes nothing.
 use mathlib.Core.Path.{_≡_, refl, sym, ap, ap₂, _∙_}
 use Prim.Native.Nat.{ℕ, suc, _+_, _≤_, _<_}
 use native.Mathlib.Numerals.{add-one}
@@ -13,28 +13,10 @@ use lib.Dec.{eqb}
 use borrow.Author.Tests.{eq-eqb, ne-eqb}
 use Rattle.definitions.specs.Lists.{any, firstFailing, snoc}
 use Rattle.definitions.specs.Problem.Node.{Node, node, noNode, same}
-use Rattle.definitions.specs.Problem.Ops.{nodeRight}
-use Rattle.definitions.specs.Problem.Check.{firstWrong, distinct}
+use Rattle.definitions.specs.Problem.Check.{distinct}
 use Rattle.theorems.proofs.Laws.Tests.{none≢some}
+use Rattle.theorems.proofs.Laws.Scans.{failingFrom, fails-here, fails-later, fails-nowhere}
 use Rattle.problem.specs.Stages.{firstSame}
-
--- the first member from place k on that fails a test
-abbrev pub failingFrom : {A : Type 0} → (A → Bool) → List A → ℕ → Option ℕ
-failingFrom f xs k = firstFailing f k (drop k xs)
-
-module _ {A : Type 0} (f : A → Bool) (xs : List A) where
-  module _ (d : A) (k : ℕ) (h : k < length xs) where
-    here : failingFrom f xs k ≡ elim (f (getD xs k d)) [ true ↦ failingFrom f xs (suc k) | false ↦ some k ]
-    here = ap (firstFailing f k) (drop-cons xs k d h)
-
-    pub fails-here : f (getD xs k d) ≡ false → failingFrom f xs k ≡ some k
-    fails-here e = here ∙ rw e
-
-    pub fails-later : f (getD xs k d) ≡ true → failingFrom f xs k ≡ failingFrom f xs (k + 1)
-    fails-later e = rw (add-one k) (here ∙ rw e)
-
-  pub fails-nowhere : (k : ℕ) → length xs ≤ k → failingFrom f xs k ≡ none
-  fails-nowhere k h = ap (firstFailing f k) (drop-of-length-le xs h)
 
 -- some member passes a test if and only if the scan for the first such member finds one
 module _ {A : Type 0} (f : A → Bool) where
@@ -56,30 +38,6 @@ module _ {A : Type 0} (f : A → Bool) where
       go : (b : Bool) → (next false i xs ≡ some j → any f xs ≡ true) → next b i xs ≡ some j → b || any f xs ≡ true
       go true rec e′ = refl
       go false rec e′ = rec e′
-
--- the first wrong node from node k on
-module _ (symbols : List ℕ) (t : List Node) where
-  abbrev pub wrongFrom : ℕ → Option ℕ
-  wrongFrom k = firstWrong symbols (take k t) (drop k t)
-
-  module _ (k : ℕ) (h : k < length t) where
-    node-here : wrongFrom k ≡ elim (nodeRight symbols (take k t) (node t k)) [ true ↦ wrongFrom (suc k) | false ↦ some k ]
-    node-here =
-        ap (firstWrong symbols (take k t)) (drop-cons t k noNode h)
-        ∙ ap₂ (λ (before : List Node) (m : ℕ).
-        elim (nodeRight symbols (take k t) (node t k)) as (λ _. Option ℕ) [
-          | true ↦ firstWrong symbols before (drop (suc k) t)
-          | false ↦ some m
-        ]) (sym (take-suc t k noNode h)) (length-take-le k t (omega arith))
-
-    pub wrong-here : nodeRight symbols (take k t) (node t k) ≡ false → wrongFrom k ≡ some k
-    wrong-here e = node-here ∙ rw e
-
-    pub wrong-later : nodeRight symbols (take k t) (node t k) ≡ true → wrongFrom k ≡ wrongFrom (k + 1)
-    wrong-later e = rw (add-one k) (node-here ∙ rw e)
-
-  pub wrong-nowhere : (k : ℕ) → length t ≤ k → wrongFrom k ≡ none
-  wrong-nowhere k h = ap (firstWrong symbols (take k t)) (drop-of-length-le t h)
 
 -- two nodes are compared field by field: the first that differs, or the last, decides
 pub op-differs : (m n : Node) → (m .op ≡ n .op → ⊥) → same m n ≡ false

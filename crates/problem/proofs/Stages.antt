@@ -27,24 +27,14 @@ use Rattle.definitions.specs.Operations.Answers.{refused, given, checkAnswer}
 use Rattle.definitions.specs.Operations.Promises.{CheckPromise}
 use Rattle.definitions.specs.declared.Refusal.{Refusal}
 use Rattle.definitions.specs.declared.Checked.{Checked}
-use Rattle.theorems.proofs.Accepted.{AllNone, length-nodesAt}
-use Rattle.theorems.proofs.Laws.Tests.{none≢some}
+use Rattle.theorems.proofs.Accepted.{length-nodesAt}
+use Rattle.theorems.proofs.Laws.First.{AllNone, first-at, first-none}
 use Rattle.problem.specs.declared.bytes.Found.{Found}
 use Rattle.problem.specs.declared.head.Head.{Head}
 use Rattle.problem.specs.Shape.{Shaped}
 use Rattle.problem.specs.Stages.{foundOf, Passed, HeadRead}
 
 module _ {A : Type 0} where
-  -- what stands after some that are missing is the first
-  first-at : (xs : List (Option A)) (k : ℕ) (x : A) → AllNone (take k xs) → getD xs k none ≡ some x → firstOf xs ≡ some x
-  first-at [] k x p e = absurd (none≢some e)
-  first-at (y ∷ ys) zero x p e = rw e
-  first-at (y ∷ ys) (suc k) x p e = rw (p .0) (first-at ys k x (p .1) e)
-
-  first-none : (xs : List (Option A)) → AllNone xs → firstOf xs ≡ none
-  first-none [] p = refl
-  first-none (y ∷ ys) p = rw (p .0) (first-none ys (p .1))
-
   one-more : (xs : List (Option A)) (k : ℕ) → AllNone (take k xs) → getD xs k none ≡ none → AllNone (take (suc k) xs)
   one-more [] k p e = tt
   one-more (y ∷ ys) zero p e = (e, tt)

@@ -11,7 +11,7 @@ use Rattle.definitions.specs.Problem.Check.{checkConditions}
 use Rattle.definitions.specs.Operations.Answers.{refused, checkAnswer}
 use Rattle.definitions.specs.Operations.Readings.{refusalRead, checkedRead}
 use Rattle.definitions.specs.declared.Checked.{Checked}
-use Rattle.theorems.proofs.Accepted.{AllNone}
+use Rattle.theorems.proofs.Laws.First.{AllNone}
 use Rattle.problem.specs.Shape.{Shaped}
 use Rattle.problem.specs.declared.bytes.Found.{Found}
 use Rattle.problem.specs.declared.head.Head.{Head}

@@ -5,7 +5,6 @@ pub mod LinkLaws
 pub mod Measuring
 pub mod SetLaws
 pub mod SizeLaws
-pub mod TableBack
 pub mod TableLaws
 pub mod TopLaws
 pub mod Unions

@@ -25,7 +25,7 @@ use Rattle.elimination.proofs.Promising.{nodes-laid, table-laid, work-kept, wor
 use Rattle.ranges.specs.Table.{tableIn, TableIn}
 use Rattle.ranges.specs.Spans.{SpansAre, ProductIs, noRanges}
 use Rattle.ranges.specs.declared.Spans.{Spans}
-use Rattle.ranges.proofs.TableBack.{table-back}
+use Rattle.theorems.proofs.Tables.Back.{table-back}
 
 -- the table that elimination has laid
 module _ (s : List ℕ) (ok : Accepted s) {work work′ : List ℕ} {l : Laid} (all : AllLaid s work l work′) where

@@ -13,16 +13,7 @@ use Rattle.definitions.specs.Bytes.{twoAt, EQP}
 use Rattle.definitions.specs.Problem.Node.{nodesAt}
 use Rattle.definitions.specs.Problem.Check.{symbolCount, nodeCount, symbolsOf, nodesOf, stands, symbolByteRight, firstWrong, termAsked, functionsIn, predicatesIn, refuseIf, refuseAt, checkConditions, refusalOf}
 use Rattle.theorems.proofs.Laws.Tests.{none≢some}
-
-abbrev pub AllNone : {A : Type 0} → List (Option A) → Type 0
-AllNone [] = Unit {0}
-AllNone (x ∷ xs) = (x ≡ none) × AllNone xs
-
--- where nothing is first, nothing is there
-pub all-none : {A : Type 0} (xs : List (Option A)) → firstOf xs ≡ none → AllNone xs
-all-none [] e = tt
-all-none (none ∷ xs) e = (refl, all-none xs e)
-all-none (some x ∷ xs) e = absurd (none≢some (sym e))
+use Rattle.theorems.proofs.Laws.First.{all-none}
 
 pub if-none : (b : Bool) (k : ℕ) → refuseIf b k ≡ none → b ≡ false
 if-none true k e = absurd (none≢some (sym e))

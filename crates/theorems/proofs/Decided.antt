@@ -1,24 +1,30 @@
 -- What decide's promise says of an answer, case by case: the lemmas below the top. Assumes nothing.
 use mathlib.Core.Path.{_≡_, refl, sym, ap, _∙_, subst}
 use Prim.Native.Nat.{ℕ, _≤_, _<_}
+use native.Mathlib.Omega.{arith}
 use mathlib.Core.Bool.{true, false}
-use mathlib.Core.List.{List, _++_}
+use mathlib.Core.List.{List, []}
 use mathlib.Core.Logic.{_↔_}
-use mathlib.Core.Option.{Option, none}
+use mathlib.Core.Option.{Option, none, some}
 use lib.ListN.{length, drop}
+use Rattle.definitions.specs.Problem.Node.{Node, nodesAt, tableBytes}
 use Rattle.definitions.specs.Problem.Check.{Refused}
-use Rattle.definitions.specs.Logic.{Valid, holds}
+use Rattle.definitions.specs.Logic.{Interpretation, Valid, holds, values, truthAt}
+use Rattle.definitions.specs.Elimination.{eliminated, tableOf, rootOf}
 use Rattle.definitions.specs.Ranges.{product}
 use Rattle.definitions.specs.Places.{trueAt}
-use Rattle.definitions.specs.Verdict.{Outcome, valid, falsified, stopped, outcomeOf}
+use Rattle.definitions.specs.Verdict.{Outcome, valid, falsified, stopped, firstFalse, outcomeOf}
 use Rattle.definitions.specs.Witness.{tablesOf, witnessAt}
-use Rattle.definitions.specs.Operations.Answers.{decideRefusal, given, unless, isValid, isFalsified, isStopped, Decided, decided, decideAnswer}
-use Rattle.definitions.specs.Operations.Buffers.{unlessRefused, witnessWritten, witnessAfter}
-use Rattle.definitions.specs.Operations.Readings.{decisionRead}
+use Rattle.definitions.specs.Operations.Answers.{buffersRefusal, decideRefusal, given, unless, Decided, decided, decideAnswer}
+use Rattle.definitions.specs.Operations.Buffers.{over, unlessRefused, workAfterDecide, witnessWritten, witnessAfter}
+use Rattle.definitions.specs.Operations.Readings.{refusalRead, decisionRead}
 use Rattle.definitions.specs.Operations.Promises.{DecidePromise}
+use Rattle.definitions.specs.declared.Refusal.{Refusal}
 use Rattle.definitions.specs.declared.Decision.{Decision}
+use Rattle.theorems.specs.Conditions.{number, Refuses, PassesTwelve, Passes}
+use Rattle.theorems.specs.Searched.{Falsifiable, tableTruth, triedOf, triedWithin}
+use Rattle.theorems.proofs.Accepted.{Accepted}
 use Rattle.theorems.proofs.Exactly.{
-  Falsifiable,
   valid-sound,
   falsified-sound,
   stopped-sound,
@@ -28,63 +34,51 @@ use Rattle.theorems.proofs.Exactly.{
   valid-stays,
   falsified-stays,
 }
-use Rattle.theorems.proofs.Taken.{Taken, taken, given-taken}
+use Rattle.theorems.proofs.Search.Verdict.{countOf, tried-is}
+use Rattle.theorems.proofs.Tables.Back.{table-back}
+use Rattle.theorems.proofs.Truth.{rootTruth, interpretationOf, assignmentOf, assignment-truth, interpretation-truth}
+use Rattle.theorems.proofs.Fits.{table-fits}
+use Rattle.theorems.proofs.Taken.{Taken, laid-accepted, taken, given-taken, refused-taken}
+use Rattle.theorems.proofs.Refusing.{passes, passes-twelve, refuses, refusal-named}
 use Rattle.theorems.proofs.Unique.{decision-apart}
 use Rattle.theorems.proofs.Witness.Falsifies.{witness-truth}
 
--- an answer that is no refusal
-abbrev pub DecisionTaken : Decision → Type 0
-DecisionTaken (Decision.Valid t p) = Unit {0}
-DecisionTaken (Decision.Falsified t p w) = Unit {0}
-DecisionTaken (Decision.Stopped t p) = Unit {0}
-DecisionTaken (Decision.Refused x) = ⊥
-
--- what is read of such an answer
-abbrev values : Decision → Decided
-values (Decision.Valid t p) = record { verdict = isValid; tried = t; product = p; written = 0 }
-values (Decision.Falsified t p w) = record { verdict = isFalsified; tried = t; product = p; written = w }
-values (Decision.Stopped t p) = record { verdict = isStopped; tried = t; product = p; written = 0 }
-values (Decision.Refused x) = record { verdict = isStopped; tried = 0; product = 0; written = 0 }
-
-taken-given : (r : Decision) → DecisionTaken r → decisionRead r ≡ given (values r)
-taken-given (Decision.Valid t p) d = refl
-taken-given (Decision.Falsified t p w) d = refl
-taken-given (Decision.Stopped t p) d = refl
-taken-given (Decision.Refused x) d = absurd d
-
--- a decision is what its outcome and the product say
-abbrev decisionOf : List ℕ → Outcome → Decision
+-- the decision that an outcome and the product make
+abbrev pub decisionOf : List ℕ → Outcome → Decision
 decisionOf s (valid t) = Decision.Valid t (product s)
 decisionOf s (falsified t) = Decision.Falsified t (product s) (length (witnessAt s t))
 decisionOf s (stopped t) = Decision.Stopped t (product s)
 
-decisionOf-read : (s : List ℕ) (o : Outcome) → decisionRead (decisionOf s o) ≡ given (decided s o)
-decisionOf-read s (valid t) = refl
-decisionOf-read s (falsified t) = refl
-decisionOf-read s (stopped t) = refl
+pub decision-read : (s : List ℕ) (o : Outcome) → decisionRead (decisionOf s o) ≡ given (decided s o)
+decision-read s (valid t) = refl
+decision-read s (falsified t) = refl
+decision-read s (stopped t) = refl
 
--- and the outcome and the product can be read off it
-abbrev outcomeNamed : Decision → Outcome
-outcomeNamed (Decision.Valid t p) = valid t
-outcomeNamed (Decision.Falsified t p w) = falsified t
-outcomeNamed (Decision.Stopped t p) = stopped t
-outcomeNamed (Decision.Refused x) = stopped 0
+decision-tried : (s : List ℕ) (o : Outcome) → triedOf (decisionOf s o) ≡ countOf o
+decision-tried s (valid t) = refl
+decision-tried s (falsified t) = refl
+decision-tried s (stopped t) = refl
 
-abbrev placesNamed : Decision → ℕ
-placesNamed (Decision.Valid t p) = p
-placesNamed (Decision.Falsified t p w) = p
-placesNamed (Decision.Stopped t p) = p
-placesNamed (Decision.Refused x) = 0
+-- it tells the outcome
+module _ (s : List ℕ) (tried places : ℕ) where
+  clash : {A : Type 0} → _≡_ {A = ℕ} 0 1 → A
+  clash z = absurd (omega arith)
 
-named-outcome : (s : List ℕ) (o : Outcome) → outcomeNamed (decisionOf s o) ≡ o
-named-outcome s (valid t) = refl
-named-outcome s (falsified t) = refl
-named-outcome s (stopped t) = refl
+  says-valid : (o : Outcome) → decisionOf s o ≡ Decision.Valid tried places → (o ≡ valid tried) × (places ≡ product s)
+  says-valid (valid t) e = (cc, cc)
+  says-valid (falsified t) e = clash (cc)
+  says-valid (stopped t) e = clash (cc)
 
-named-places : (s : List ℕ) (o : Outcome) → placesNamed (decisionOf s o) ≡ product s
-named-places s (valid t) = refl
-named-places s (falsified t) = refl
-named-places s (stopped t) = refl
+  says-falsified : (written : ℕ) (o : Outcome) → decisionOf s o ≡ Decision.Falsified tried places written
+      → (o ≡ falsified tried) × (places ≡ product s) × (written ≡ length (witnessAt s tried))
+  says-falsified written (valid t) e = clash (cc)
+  says-falsified written (falsified t) e = (cc, cc, cc)
+  says-falsified written (stopped t) e = clash (cc)
+
+  says-stopped : (o : Outcome) → decisionOf s o ≡ Decision.Stopped tried places → (o ≡ stopped tried) × (places ≡ product s)
+  says-stopped (valid t) e = clash (cc)
+  says-stopped (falsified t) e = clash (cc)
+  says-stopped (stopped t) e = (cc, cc)
 
 module _
     (budget : ℕ)
@@ -95,113 +89,213 @@ module _
   abbrev refusal : Option Refused
   refusal = decideRefusal s (length work) (length witness)
 
-  given-answer : DecisionTaken r → given (values r) ≡ decideAnswer s budget (length work) (length witness)
-  given-answer d = sym (taken-given r d) ∙ promise .answers
+  abbrev found : Outcome
+  found = outcomeOf s budget
 
-  -- a taken answer is that of the outcome of the search
-  not-refused : DecisionTaken r → refusal ≡ none
+  -- the answer and the buffers, by what refuses
+  answer-by : (o : Option Refused) → refusal ≡ o → decisionRead r ≡ unless o (decided s found)
   unfolding decideAnswer
-  not-refused d = given-taken refusal (decided s (outcomeOf s budget)) (values r) (given-answer d) .0
+  answer-by o e = promise .answers ∙ ap (λ (o : Option Refused). unless o (decided s found)) e
 
-  input : DecisionTaken r → Taken s (length work) (length witness)
-  input d = taken s (length work) (length witness) (not-refused d)
+  witness-by : (o : Option Refused) → refusal ≡ o → witness′ ≡ unlessRefused o witness (witnessWritten s found witness)
+  unfolding witnessAfter
+  witness-by o e = promise .witness-after ∙ ap (λ (o : Option Refused). unlessRefused o witness (witnessWritten s found witness)) e
 
-  decision-is : DecisionTaken r → r ≡ decisionOf s (outcomeOf s budget)
-  unfolding decideAnswer
-  decision-is d =
-      decision-apart r (decisionOf s (outcomeOf s budget))
-      (promise .answers ∙ ap (λ (o : Option Refused). unless o (decided s (outcomeOf s budget))) (not-refused d)
-      ∙ sym (decisionOf-read s (outcomeOf s budget)))
+  work-by : (o : Option Refused) → buffersRefusal s (length work) (length witness) ≡ o
+      → work′ ≡ unlessRefused o work (over (tableBytes (tableOf s)) work)
+  unfolding workAfterDecide
+  work-by o e = promise .work-after ∙ ap (λ (o : Option Refused). unlessRefused o work (over (tableBytes (tableOf s)) work)) e
 
-  outcome-is : DecisionTaken r → outcomeOf s budget ≡ outcomeNamed r
-  outcome-is d = sym (named-outcome s (outcomeOf s budget)) ∙ ap outcomeNamed (sym (decision-is d))
+  -- a refusal comes exactly where it refuses
+  refusal-is : (x : Refusal) → (r ≡ Decision.Refused x) ↔ (refusal ≡ some (refusalRead x))
+  refusal-is x = (
+    λ e. refused-taken refusal (decided s found) (refusalRead x) (sym (ap decisionRead e) ∙ answer-by refusal refl),
+    λ e. decision-apart r (Decision.Refused x) (answer-by (some (refusalRead x)) e),
+  )
 
-  places-is : DecisionTaken r → placesNamed r ≡ product s
-  places-is d = ap placesNamed (decision-is d) ∙ named-places s (outcomeOf s budget)
+  pub refused-exactly : (x : Refusal) → (r ≡ Decision.Refused x) ↔ Refuses s (length work) (length witness) x
+  refused-exactly x =
+      let c = refuses s (length work) (length witness) x in
+      (λ e. c .0 (refusal-is x .0 e), λ m. refusal-is x .1 (c .1 m))
+
+  -- what it leaves
+  table-laid : PassesTwelve s (length work) (length witness) → work′ ≡ over (tableBytes (tableOf s)) work
+  table-laid p = work-by none (passes-twelve s (length work) (length witness) .1 p)
+
+  work-kept : (x : Refusal) → r ≡ Decision.Refused x → number x ≤ 12 → work′ ≡ work
+  work-kept x e l = go (buffersRefusal s (length work) (length witness)) refl
+    where
+      go : (o : Option Refused) → buffersRefusal s (length work) (length witness) ≡ o → work′ ≡ work
+      go (some q) b = work-by (some q) b
+      go none b = absurd (passes-twelve s (length work) (length witness) .0 b x l (refused-exactly x .0 e .0))
+
+  pub refused-leaves : (x : Refusal) → r ≡ Decision.Refused x
+      → (witness′ ≡ witness) × (number x ≤ 12 → work′ ≡ work) × (number x ≡ 13 → work′ ≡ over (tableBytes (tableOf s)) work)
+  refused-leaves x e = (
+    witness-by (some (refusalRead x)) (refusal-is x .0 e),
+    work-kept x e,
+    λ n. table-laid (λ y l m. refused-exactly x .0 e .1 y (omega arith) m),
+  )
+
+  -- the table read back from the work buffer is the elimination's, which has the truth of the original formula both ways
+  pub table-both-ways : PassesTwelve s (length work) (length witness)
+      → (work′ ≡ over (tableBytes (tableOf s)) work)
+      × ((A : Interpretation) → (I : Interpretation) × (holds I s ≡ tableTruth s work′ A))
+      × ((I : Interpretation) → (A : Interpretation) × (tableTruth s work′ A ≡ holds I s))
+  table-both-ways p =
+      let ok = laid-accepted s (length work) (length witness) (passes-twelve s (length work) (length witness) .1 p) in
+      let back : nodesAt work′ 0 (length (tableOf s)) ≡ tableOf s =
+      ap (λ (w : List ℕ). nodesAt w 0 (length (tableOf s))) (table-laid p) ∙ table-back (tableOf s) (table-fits s ok) work
+      in
+      let same : (A : Interpretation) → rootTruth s A ≡ tableTruth s work′ A =
+      λ A. ap (λ (t : List Node). truthAt (values A [] t) (rootOf (eliminated s))) (sym back)
+      in (
+        table-laid p,
+        λ A. (interpretationOf s ok A, assignment-truth s ok A ∙ same A),
+        λ I. (assignmentOf s ok I, sym (same (assignmentOf s ok I)) ∙ interpretation-truth s ok I),
+      )
+
+  -- an answer that is no refusal comes exactly where nothing refuses
+  given-free : (d : Decided) → decisionRead r ≡ given d → refusal ≡ none
+  given-free d e = given-taken refusal (decided s found) d (sym e ∙ answer-by refusal refl) .0
+
+  pub taken-input : (d : Decided) → decisionRead r ≡ given d → Taken s (length work) (length witness)
+  taken-input d e = taken s (length work) (length witness) (given-free d e)
+
+  pub taken-exactly : ((x : Refusal) → r ≡ Decision.Refused x → ⊥) ↔ Passes s (length work) (length witness)
+  taken-exactly = (
+    λ n. passes s (length work) (length witness) .0 (go n refusal refl),
+    λ p x e. p x (refused-exactly x .0 e .0),
+  )
+    where
+      go : ((x : Refusal) → r ≡ Decision.Refused x → ⊥) → (o : Option Refused) → refusal ≡ o → o ≡ none
+      go n none e = refl
+      go n (some q) e =
+          let x = refusal-named s (length work) (length witness) q e in
+          absurd (n (x .0) (refusal-is (x .0) .1 (e ∙ ap some (sym (x .1)))))
+
+  -- where nothing refuses, the answer and the witness buffer are those of the outcome
+  module _ (free : refusal ≡ none) where
+    problem : Accepted s
+    problem = taken s (length work) (length witness) free .problem
+
+    decision-is : r ≡ decisionOf s found
+    decision-is = decision-apart r (decisionOf s found) (answer-by none free ∙ sym (decision-read s found))
+
+    witness-is : (o : Outcome) → found ≡ o → witness′ ≡ witnessWritten s o witness
+    witness-is o e = witness-by none free ∙ ap (λ (o : Outcome). witnessWritten s o witness) e
 
   pub valid-decision : (tried places : ℕ) → r ≡ Decision.Valid tried places
-      → (places ≡ product s) × (tried ≡ product s) × (product s ≤ budget) × Valid s
+      → (places ≡ product s) × (tried ≡ product s) × (product s ≤ budget) × Valid s × (witness′ ≡ witness)
   valid-decision tried places e =
-      let d : DecisionTaken r = subst DecisionTaken (sym e) tt in
-      let v = valid-sound s (input d .problem) budget tried (outcome-is d ∙ ap outcomeNamed e) in
-      (sym (ap placesNamed e) ∙ places-is d, v .0, v .1, v .2)
-
-  -- a falsified answer leaves the witness at the start of its buffer
-  witness-is : (tried : ℕ) → DecisionTaken r → outcomeOf s budget ≡ falsified tried
-      → witness′ ≡ witnessAt s tried ++ drop (length (witnessAt s tried)) witness
-  unfolding witnessAfter
-  witness-is tried d e =
-      promise .witness-after
-      ∙ ap (λ (o : Option Refused). unlessRefused o witness (witnessWritten s (outcomeOf s budget) witness)) (not-refused d)
-      ∙ ap (λ (o : Outcome). witnessWritten s o witness) e
+      let free = given-free _ (ap decisionRead e) in
+      let o = says-valid s tried places found (sym (decision-is free) ∙ e) in
+      let v = valid-sound s (problem free) budget tried (o .0) in
+      (o .1, v .0, v .1, v .2, witness-is free (valid tried) (o .0))
 
   pub falsified-decision : (tried places written : ℕ) → r ≡ Decision.Falsified tried places written
-      → (places ≡ product s) × (tried ≤ product s) × (tried ≤ budget)
+      → (places ≡ product s) × (1 ≤ tried) × (tried ≤ product s) × (tried ≤ budget)
       × (trueAt s tried ≡ false) × ((p : ℕ) → 1 ≤ p → p < tried → trueAt s p ≡ true)
       × (holds (tablesOf witness′) s ≡ false)
+      × (written ≡ length (witnessAt s tried)) × (witness′ ≡ over (witnessAt s tried) witness)
   falsified-decision tried places written e =
-      let d : DecisionTaken r = subst DecisionTaken (sym e) tt in
-      let o = outcome-is d ∙ ap outcomeNamed e in
-      let ok = input d .problem in
-      let f = falsified-sound s ok budget tried o in (
-        sym (ap placesNamed e) ∙ places-is d,
+      let free = given-free _ (ap decisionRead e) in
+      let o = says-falsified s tried places written found (sym (decision-is free) ∙ e) in
+      let f = falsified-sound s (problem free) budget tried (o .0) in
+      let w = witness-is free (falsified tried) (o .0) in (
+        o .1,
+        f .1 .low,
         f .1 .high,
         f .0,
         f .1 .fails,
         f .1 .before,
-        ap (λ (w : List ℕ). holds (tablesOf w) s) (witness-is tried d o)
-            ∙ witness-truth s ok tried (drop (length (witnessAt s tried)) witness)
+        ap (λ (w : List ℕ). holds (tablesOf w) s) w
+            ∙ witness-truth s (problem free) tried (drop (length (witnessAt s tried)) witness)
             ∙ f .1 .fails,
+        o .2,
+        w,
       )
 
   pub stopped-decision : (tried places : ℕ) → r ≡ Decision.Stopped tried places
       → (places ≡ product s) × (tried ≡ budget) × (budget < product s) × ((p : ℕ) → 1 ≤ p → p ≤ budget → trueAt s p ≡ true)
+      × (witness′ ≡ witness)
   stopped-decision tried places e =
-      let d : DecisionTaken r = subst DecisionTaken (sym e) tt in
-      let v = stopped-sound s (input d .problem) budget tried (outcome-is d ∙ ap outcomeNamed e) in
-      (sym (ap placesNamed e) ∙ places-is d, v .0, v .1, v .2)
+      let free = given-free _ (ap decisionRead e) in
+      let o = says-stopped s tried places found (sym (decision-is free) ∙ e) in
+      let v = stopped-sound s (problem free) budget tried (o .0) in
+      (o .1, v .0, v .1, v .2, witness-is free (stopped tried) (o .0))
 
-  module _ (d : DecisionTaken r) where
+  module _ (p : Passes s (length work) (length witness)) where
+    free : refusal ≡ none
+    free = passes s (length work) (length witness) .1 p
+
     pub valid-decided : product s ≤ budget → (r ≡ Decision.Valid (product s) (product s)) ↔ Valid s
     valid-decided h = (
       λ e. valid-decision (product s) (product s) e .3,
-      λ v. decision-is d ∙ ap (decisionOf s) (valid-exactly s (input d .problem) budget h .1 v),
+      λ v. decision-is free ∙ ap (decisionOf s) (valid-exactly s (problem free) budget h .1 v),
     )
 
     pub falsified-decided : product s ≤ budget
         → ((tried written : ℕ) × (r ≡ Decision.Falsified tried (product s) written)) ↔ Falsifiable s
     falsified-decided h = (
-      λ e. falsified-sound s (input d .problem) budget (e .0) (outcome-is d ∙ ap outcomeNamed (e .2)) .2,
+      λ e.
+          let o = says-falsified s (e .0) (product s) (e .1) found (sym (decision-is free) ∙ e .2) in
+          falsified-sound s (problem free) budget (e .0) (o .0) .2,
       λ f.
-          let t = falsified-exactly s (input d .problem) budget h .1 f in
-          (t .0, length (witnessAt s (t .0)), decision-is d ∙ ap (decisionOf s) (t .1)),
+          let t = falsified-exactly s (problem free) budget h .1 f in
+          (t .0, length (witnessAt s (t .0)), decision-is free ∙ ap (decisionOf s) (t .1)),
     )
 
     pub stopped-decided : budget < product s
         → (r ≡ Decision.Stopped budget (product s)) ↔ ((p : ℕ) → 1 ≤ p → p ≤ budget → trueAt s p ≡ true)
     stopped-decided h = (
       λ e. stopped-decision budget (product s) e .3,
-      λ a. decision-is d ∙ ap (decisionOf s) (stopped-exactly s (input d .problem) budget h .1 a),
+      λ a. decision-is free ∙ ap (decisionOf s) (stopped-exactly s (problem free) budget h .1 a),
     )
 
-  -- an outcome that is not stopped is the same at a larger budget
-  outcome-stays : (larger : ℕ) → budget ≤ larger → (o : Outcome) → outcomeOf s budget ≡ o → ((t : ℕ) → o ≡ stopped t → ⊥)
-      → outcomeOf s larger ≡ o
-  outcome-stays larger h (valid t) e n = valid-stays s budget larger t h e
-  outcome-stays larger h (falsified t) e n = falsified-stays s budget larger t h e
-  outcome-stays larger h (stopped t) e n = absurd (n t refl)
+    pub tried-decided : triedOf r ≡ triedWithin budget (product s) (firstFalse (trueAt s) 1 (product s))
+    unfolding outcomeOf
+    tried-decided = ap triedOf (decision-is free) ∙ decision-tried s found ∙ tried-is (trueAt s) budget (product s)
 
-  pub grown-decision : (larger : ℕ) → budget ≤ larger → (q : Decision) (v v′ : List ℕ) → DecidePromise larger s work witness q v v′
-      → DecisionTaken r → ((tried places : ℕ) → r ≡ Decision.Stopped tried places → ⊥) → (q ≡ r) × (v ≡ work′) × (v′ ≡ witness′)
+-- an outcome that is not stopped is the same at a larger budget
+outcome-stays : (s : List ℕ) (budget larger : ℕ) → budget ≤ larger → (o : Outcome) → outcomeOf s budget ≡ o
+    → ((t : ℕ) → o ≡ stopped t → ⊥) → outcomeOf s larger ≡ o
+outcome-stays s budget larger h (valid t) e n = valid-stays s budget larger t h e
+outcome-stays s budget larger h (falsified t) e n = falsified-stays s budget larger t h e
+outcome-stays s budget larger h (stopped t) e n = absurd (n t refl)
+
+-- at a larger budget every answer but stopped is the same, with its buffers
+module _
+    (budget larger : ℕ)
+    (more : budget ≤ larger)
+    (s work witness : List ℕ)
+    (r q : Decision)
+    (work′ witness′ v v′ : List ℕ)
+    (promise : DecidePromise budget s work witness r work′ witness′)
+    (other : DecidePromise larger s work witness q v v′)
+    (moved : (tried places : ℕ) → r ≡ Decision.Stopped tried places → ⊥) where
+  abbrev refused-by : Option Refused
+  refused-by = decideRefusal s (length work) (length witness)
+
+  outcome-same : refused-by ≡ none → outcomeOf s larger ≡ outcomeOf s budget
+  outcome-same e =
+      outcome-stays s budget larger more (outcomeOf s budget) refl
+      (λ t o. moved t (product s) (decision-is budget s work witness r work′ witness′ promise e ∙ ap (decisionOf s) o))
+
+  by-outcome : {A : Type 0} (f : Option Refused → Outcome → A) → ((x : Refused) (o o′ : Outcome) → f (some x) o ≡ f (some x) o′)
+      → f refused-by (outcomeOf s larger) ≡ f refused-by (outcomeOf s budget)
+  by-outcome {A} f h = go refused-by refl
+    where
+      go : (o : Option Refused) → refused-by ≡ o → f o (outcomeOf s larger) ≡ f o (outcomeOf s budget)
+      go (some x) e = h x (outcomeOf s larger) (outcomeOf s budget)
+      go none e = ap (f none) (outcome-same e)
+
+  pub grown-decision : (q ≡ r) × (v ≡ work′) × (v′ ≡ witness′)
   unfolding decideAnswer witnessAfter
-  grown-decision larger h q v v′ other d moving =
-      let same : outcomeOf s larger ≡ outcomeOf s budget =
-      outcome-stays larger h (outcomeOf s budget) refl
-      (λ t e. moving t (product s) (decision-is d ∙ ap (decisionOf s) e))
-      in (
-        decision-apart q r
-            (other .answers ∙ ap (λ (o : Outcome). unless refusal (decided s o)) same ∙ sym (promise .answers)),
-        other .work-after ∙ sym (promise .work-after),
-        other .witness-after ∙ ap (λ (o : Outcome). unlessRefused refusal witness (witnessWritten s o witness)) same
-            ∙ sym (promise .witness-after),
-      )
+  grown-decision = (
+    decision-apart q r
+        (other .answers ∙ by-outcome (λ x o. unless x (decided s o)) (λ x o o′. refl) ∙ sym (promise .answers)),
+    other .work-after ∙ sym (promise .work-after),
+    other .witness-after ∙ by-outcome (λ x o. unlessRefused x witness (witnessWritten s o witness)) (λ x o o′. refl)
+        ∙ sym (promise .witness-after),
+  )

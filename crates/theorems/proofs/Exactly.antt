@@ -11,9 +11,8 @@ use Rattle.definitions.specs.Ranges.{product}
 use Rattle.definitions.specs.Places.{trueAt}
 use Rattle.definitions.specs.Verdict.{valid, falsified, stopped, outcomeOf}
 use Rattle.theorems.proofs.Accepted.{Accepted}
+use Rattle.theorems.specs.Searched.{Falsifiable, AllTrue, FirstFalse}
 use Rattle.theorems.proofs.Search.Verdict.{
-  AllTrue,
-  FirstFalse,
   first-or-none,
   valid-when,
   falsified-when,
@@ -33,10 +32,6 @@ use Rattle.theorems.proofs.Truth.{
   place-of,
   place-truth,
 }
-
--- some interpretation makes the formula false
-abbrev pub Falsifiable : List ℕ → Type 0
-Falsifiable s = (I : Interpretation) × (holds I s ≡ false)
 
 -- no formula is both
 pub not-both : (s : List ℕ) → Valid s → Falsifiable s → ⊥

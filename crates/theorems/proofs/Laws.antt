@@ -2,3 +2,5 @@
 pub mod Tests
 pub mod Ops
 pub mod Grown
+pub mod First
+pub mod Scans

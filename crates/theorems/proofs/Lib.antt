@@ -11,5 +11,8 @@ pub mod Fits
 pub mod Exactly
 pub mod Taken
 pub mod Unique
+pub mod Refusing
 pub mod Decided
+pub mod Called
 pub mod Top
+pub mod HostTop

@@ -9,8 +9,9 @@ use borrow.Author.Tests.{ltb-false}
 use Rattle.definitions.specs.Problem.Check.{Refused, refusalOf}
 use Rattle.definitions.specs.Ranges.{product}
 use Rattle.definitions.specs.Verdict.{Outcome, valid, falsified, stopped, outcomeOf}
-use Rattle.definitions.specs.Operations.Answers.{shortWork, shortWitness, bigProduct, eliminateRefusal, buffersRefusal, decideRefusal, given, unless, Verdict, isValid, isFalsified, isStopped, Decided, decided, decideAnswer}
-use Rattle.theorems.proofs.Accepted.{Accepted, accepted, all-none, if-none}
+use Rattle.definitions.specs.Operations.Answers.{shortWork, shortWitness, bigProduct, eliminateRefusal, buffersRefusal, decideRefusal, refused, given, unless, Verdict, isValid, isFalsified, isStopped, Decided, decided, decideAnswer}
+use Rattle.theorems.proofs.Laws.First.{all-none}
+use Rattle.theorems.proofs.Accepted.{Accepted, accepted, if-none}
 
 -- the input is taken: no refusal applies
 pub record Taken (s : List ℕ) (work room : ℕ) : Type 0 where
@@ -18,6 +19,13 @@ pub record Taken (s : List ℕ) (work room : ℕ) : Type 0 where
   pub work-long : 21056 ≤ work
   pub room-long : 206 ≤ room
   pub product-small : product s ≤ 10 ^ 18
+
+-- where the table is laid, the problem is accepted
+pub laid-accepted : (s : List ℕ) (work room : ℕ) → buffersRefusal s work room ≡ none → Accepted s
+unfolding buffersRefusal eliminateRefusal
+laid-accepted s work room e =
+    accepted s
+    (all-none (refusalOf s ∷ shortWork work ∷ []) (all-none (eliminateRefusal s work ∷ shortWitness room ∷ []) e .0) .0)
 
 pub taken : (s : List ℕ) (work room : ℕ) → decideRefusal s work room ≡ none → Taken s work room
 unfolding decideRefusal buffersRefusal eliminateRefusal
@@ -36,6 +44,11 @@ taken s work room e =
 pub given-taken : {A : Type 0} (o : Option Refused) (v w : A) → given w ≡ unless o v → (o ≡ none) × (w ≡ v)
 given-taken none v w e = (refl, cc)
 given-taken (some r) v w e = absurd (let z : _≡_ {A = ℕ} 0 1 = cc in omega arith)
+
+-- and a refusal only where it refuses
+pub refused-taken : {A : Type 0} (o : Option Refused) (v : A) (q : Refused) → refused q ≡ unless o v → o ≡ some q
+refused-taken none v q e = absurd (let z : _≡_ {A = ℕ} 0 1 = cc in omega arith)
+refused-taken (some r) v q e = cc
 
 -- the outcome with a verdict and a count
 abbrev pub outcomeWith : Verdict → ℕ → Outcome

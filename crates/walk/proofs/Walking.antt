@@ -16,7 +16,7 @@ use Rattle.theorems.proofs.Accepted.{length-nodesAt}
 use Rattle.theorems.proofs.Laws.Grown.{length-grown}
 use Rattle.theorems.proofs.Laws.Tests.{split}
 use Rattle.theorems.proofs.Search.Places.{after-within}
-use Rattle.theorems.proofs.Search.Verdict.{AllTrue}
+use Rattle.theorems.specs.Searched.{AllTrue}
 use Rattle.ranges.specs.Table.{TableIn, tableIn}
 use Rattle.walk.specs.Cells.{cell, Decoded, LanesLaid, Solved, Constant, LaneHolds, FirstLane, LaneCopied}
 use Rattle.walk.specs.Digits.{Digits, ValuesAre, valueIn, Turning, NextIs, PlacesLaid, digitsOf, sizesIn}

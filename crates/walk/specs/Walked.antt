@@ -9,7 +9,7 @@ use Rattle.definitions.specs.Problem.Ops.{formula}
 use Rattle.definitions.specs.Logic.{truthAt, values}
 use Rattle.definitions.specs.Places.{first, digitsAt, assignment}
 use Rattle.theorems.proofs.Laws.Ops.{sortAt}
-use Rattle.theorems.proofs.Search.Verdict.{AllTrue, FirstFalse}
+use Rattle.theorems.specs.Searched.{AllTrue, FirstFalse}
 use Rattle.ranges.specs.Table.{tableIn}
 use Rattle.walk.specs.Digits.{ValuesAre, Turning, digitsOf, sizesIn}
 use Rattle.walk.specs.declared.odometer.Odometer.{Odometer}

@@ -13,8 +13,9 @@ use Rattle.definitions.specs.Lists.{countFrom, below, productOf}
 use Rattle.definitions.specs.Problem.Node.{Node}
 use Rattle.definitions.specs.Problem.Ops.{formula}
 use Rattle.definitions.specs.Logic.{Interpretation, truthOf, truthAt, values}
-use Rattle.definitions.specs.Ranges.{linked, rank, sizes}
+use Rattle.definitions.specs.Ranges.{sizes}
 use Rattle.definitions.specs.Places.{digitsAt, assignment}
+use Rattle.theorems.specs.Classes.{LinksInside, topIn, topsIn}
 use Rattle.theorems.proofs.Laws.Ops.{sortAt}
 use Rattle.theorems.proofs.Tables.Free.{Free}
 use Rattle.theorems.proofs.Ranges.Renaming.{Equivalence, renamed, renamed-low, renamed-high}
@@ -66,20 +67,13 @@ bit-one : (b : Bool) → eqb (bit b) 1 ≡ b
 bit-one true = refl
 bit-one false = refl
 
--- the top of a variable in given classes, and the tops of N variables
-abbrev pub topIn : (ℕ → ℕ → Bool) → ℕ → ℕ
-topIn J v = rank J v
-
-abbrev pub topsIn : (ℕ → ℕ → Bool) → ℕ → List ℕ
-topsIn J N = map (topIn J) (below N)
-
 module _
     (t : List Node)
     (N P : ℕ)
     (free : Free N P t)
     (J : ℕ → ℕ → Bool)
     (E : Equivalence J N)
-    (inside : (u v : ℕ) → u < N → v < N → linked t u v ≡ true → J u v ≡ true)
+    (inside : LinksInside t N J)
     (A : Interpretation) where
   abbrev a : ℕ → ℕ
   a v = A .function v []

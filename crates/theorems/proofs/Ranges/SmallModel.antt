@@ -15,6 +15,7 @@ use Rattle.definitions.specs.Problem.Node.{Node, node, noNode, grown}
 use Rattle.definitions.specs.Problem.Ops.{opOf, Sort, term, formula, sortOf, operandSorts, fits, countOf, fieldsOf, isApp}
 use Rattle.definitions.specs.Logic.{Interpretation, Value, number, truth, numberOf, truthOf, valueAt, numberAt, truthAt, opValue, values}
 use Rattle.definitions.specs.Ranges.{Variables, noVariable, opLeaves, nodeLeaves, leaf, links, linked}
+use Rattle.theorems.specs.Classes.{LinksInside}
 use Rattle.theorems.proofs.Laws.Tests.{or-left, or-right, and-intro, same-test, split}
 use Rattle.theorems.proofs.Laws.Ops.{Alike, Sorted, operands-sorted, op-alike, sortAt}
 use Rattle.theorems.proofs.Laws.Grown.{grown-at}
@@ -36,7 +37,7 @@ module _
     (free : Free N P t)
     (J : ℕ → ℕ → Bool)
     (E : Equivalence J N)
-    (inside : (u v : ℕ) → u < N → v < N → linked t u v ≡ true → J u v ≡ true)
+    (inside : LinksInside t N J)
     (A B : Interpretation)
     (numbers : (v : ℕ) → v < N → B .function v [] ≡ renamed J (λ u. A .function u []) v)
     (truths : (v : ℕ) → v < P → B .predicate v [] ≡ A .predicate v []) where

@@ -11,6 +11,7 @@ use lib.Dec.{ltb}
 use borrow.Author.Tests.{lt-ltb, le-ltb}
 use Rattle.definitions.specs.Lists.{productOf}
 use Rattle.definitions.specs.Places.{next, first, digitsAfter, digitsAt}
+use Rattle.theorems.specs.Searched.{IsPlace}
 
 -- every size is at least 1
 abbrev pub Positive : List ℕ → Type 0
@@ -122,7 +123,7 @@ number [] ds = 0
 number (s ∷ ss) [] = 0
 number (s ∷ ss) (d ∷ ds) = number ss ds * s + d
 
-number-after : (sizes : List ℕ) → Positive sizes → (p : ℕ) → p < productOf sizes
+number-after : (sizes : List ℕ) → Positive sizes → (p : ℕ) → IsPlace sizes p
     → number sizes (digitsAfter sizes p) ≡ p
 number-after [] h p l = omega arith
 number-after (s ∷ ss) h p l =
@@ -132,7 +133,7 @@ number-after (s ∷ ss) h p l =
     ∙ div-add-mod' p s
 
 -- no two places have the same digits
-pub one-place : (sizes : List ℕ) → Positive sizes → (p q : ℕ) → p < productOf sizes → q < productOf sizes
+pub one-place : (sizes : List ℕ) → Positive sizes → (p q : ℕ) → IsPlace sizes p → IsPlace sizes q
     → digitsAfter sizes p ≡ digitsAfter sizes q → p ≡ q
 one-place sizes h p q lp lq e = sym (number-after sizes h p lp) ∙ ap (number sizes) e ∙ number-after sizes h q lq
 

@@ -1,27 +1,17 @@
 -- What an outcome says of the places, for any test of places, and that it is the outcome exactly when this is true; a
 -- greater budget changes only stopped. Assumes nothing.
 use mathlib.Core.Path.{_≡_, refl, sym, ap, _∙_, subst}
-use Prim.Native.Nat.{ℕ, zero, suc, _+_, _≤_, _<_}
+use Prim.Native.Nat.{ℕ, zero, suc, _+_, min, _≤_, _<_}
 use native.Mathlib.Omega.{arith}
-use native.Mathlib.Nat.{le-antisymm}
-use mathlib.Core.Bool.{Bool, true, false, false≢true}
+use native.Mathlib.Nat.{le-antisymm, min-eq-left, min-eq-right}
+use mathlib.Core.Bool.{Bool, true, false, cond, false≢true}
 use mathlib.Core.Logic.{_⊎_, inl, inr}
 use mathlib.Core.Option.{Option, none, some}
 use lib.Dec.{leb}
 use borrow.Author.Tests.{leb-true, leb-false}
 use Rattle.definitions.specs.Verdict.{Outcome, valid, falsified, stopped, firstFalse, within, outcomeAt, outcome}
+use Rattle.theorems.specs.Searched.{AllTrue, FirstFalse, Says, triedWithin}
 use Rattle.theorems.proofs.Laws.Tests.{split}
-
--- the places 1 to n are true
-abbrev pub AllTrue : (ℕ → Bool) → ℕ → Type 0
-AllTrue good n = (p : ℕ) → 1 ≤ p → p ≤ n → good p ≡ true
-
--- p is the first false place, and at most n
-pub record FirstFalse (good : ℕ → Bool) (n p : ℕ) : Type 0 where
-  pub low : 1 ≤ p
-  pub high : p ≤ n
-  pub fails : good p ≡ false
-  pub before : (q : ℕ) → 1 ≤ q → q < p → good q ≡ true
 
 -- what a search of the places 1 to n finds
 abbrev Found : (ℕ → Bool) → ℕ → Option ℕ → Type 0
@@ -47,12 +37,6 @@ search-rest good n p (suc k) e h before =
 pub first-or-none : (good : ℕ → Bool) (n : ℕ)
     → ((firstFalse good 1 n ≡ none) × AllTrue good n) ⊎ ((p : ℕ) × (firstFalse good 1 n ≡ some p) × FirstFalse good n p)
 first-or-none good n = search-rest good n 1 n (omega arith) (omega arith) (λ q l m. absurd (omega arith))
-
--- what each outcome says
-abbrev Says : (ℕ → Bool) → ℕ → ℕ → Outcome → Type 0
-Says good b n (valid t) = (t ≡ n) × (n ≤ b) × AllTrue good n
-Says good b n (falsified t) = (t ≤ b) × FirstFalse good n t
-Says good b n (stopped t) = (t ≡ b) × (b < n) × AllTrue good b
 
 within-cases : (P : Outcome → Type 0) (b p : ℕ) (o : ℕ → Outcome) → (p ≤ b → P (o p)) → (b < p → P (stopped b))
     → P (within b p o)
@@ -131,6 +115,26 @@ pub falsified-grows : (good : ℕ → Bool) (b b′ n t : ℕ) → b ≤ b′ �
 falsified-grows good b b′ n t h e =
     let s = falsified-then good b n t e in
     says-when good b′ n (falsified t) (omega arith, s .1)
+
+-- the count is the first false place if the budget reaches it, else the smaller of budget and product
+abbrev pub countOf : Outcome → ℕ
+countOf (valid t) = t
+countOf (falsified t) = t
+countOf (stopped t) = t
+
+pub tried-is : (good : ℕ → Bool) (b n : ℕ) → countOf (outcome b n good) ≡ triedWithin b n (firstFalse good 1 n)
+tried-is good b n = go (firstFalse good 1 n) (first-or-none good n)
+  where
+    reached : (p : ℕ) → p ≤ n → (c : Bool) → leb p b ≡ c
+        → countOf (elim c [ true ↦ falsified p | false ↦ stopped b ]) ≡ cond c p (min b n)
+    reached p h true e = refl
+    reached p h false e = let l = leb-false p b e in sym (min-eq-left (omega arith))
+
+    go : (o : Option ℕ) → Found good n o → countOf (outcomeAt b n o) ≡ triedWithin b n o
+    go o (inl f) =
+        rw (f .0)
+        (within-cases (λ o. countOf o ≡ min b n) b n valid (λ h. sym (min-eq-right h)) (λ h. sym (min-eq-left (omega arith))))
+    go o (inr f) = rw (f .1) (reached (f .0) (f .2 .high) (leb (f .0) b) refl)
 
 -- a budget of 0 tries nothing
 pub nothing-tried : (good : ℕ → Bool) (n : ℕ) → 1 ≤ n → outcome 0 n good ≡ stopped 0

@@ -10,7 +10,7 @@ use borrow.Author.Tests.{not-true, not-false}
 use Rattle.definitions.specs.Problem.Node.{Node}
 use Rattle.definitions.specs.Problem.Check.{symbolsOf, nodesOf, firstWrong}
 use Rattle.problem.proofs.NodeLaws.{length-nodesOf}
-use Rattle.problem.proofs.Scans.{wrongFrom, wrong-here, wrong-later, wrong-nowhere}
+use Rattle.theorems.proofs.Laws.Scans.{wrongFrom, wrong-here, wrong-later, wrong-nowhere}
 use Rattle.problem.proofs.nodes.first_wrong.Statement.{statement}
 use Rattle.problem.proofs.nodes.first_wrong.Tie as tie
 

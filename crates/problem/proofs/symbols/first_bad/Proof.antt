@@ -12,7 +12,7 @@ use borrow.Author.Tests.{not-true, not-false}
 use Rattle.definitions.specs.Lists.{firstFailing}
 use Rattle.definitions.specs.Bytes.{byteAt}
 use Rattle.definitions.specs.Problem.Check.{symbolCount, symbolsOf, symbolByteRight}
-use Rattle.problem.proofs.Scans.{failingFrom, fails-here, fails-later, fails-nowhere}
+use Rattle.theorems.proofs.Laws.Scans.{failingFrom, fails-here, fails-later, fails-nowhere}
 use Rattle.problem.proofs.symbols.first_bad.Statement.{statement}
 use Rattle.problem.proofs.symbols.first_bad.Tie as tie
 

@@ -8,10 +8,10 @@ use lib.Seq.{getD-append-add}
 use Rattle.definitions.specs.Bytes.{byteAt, twoAt}
 use Rattle.definitions.specs.Problem.Node.{Node, node, nodeAt, nodesAt, nodeBytes, tableBytes}
 use Rattle.definitions.specs.Operations.Buffers.{over}
 use Rattle.theorems.proofs.Fits.{FitsNode}
-use Rattle.ranges.specs.Table.{tableIn}
 
-two-back : (x : ℕ) → x < 65536 → x % 256 + 256 * (x / 256 % 256) ≡ x
+-- a number of two bytes
+pub two-back : (x : ℕ) → x < 65536 → x % 256 + 256 * (x / 256 % 256) ≡ x
 two-back x h = omega arith
 
 -- the eight bytes of a node
@@ -59,5 +59,5 @@ nodes-back (n ∷ t) f rest =
     (nodes-after (nodeBytes n) after 0 (0 + 8) (length t) refl ∙ nodes-back t (λ k h. f (suc k) (omega arith)) rest)
 
 -- the table at the start of a buffer
-pub table-back : (t : List Node) → ((k : ℕ) → k < length t → FitsNode (node t k)) → (w : List ℕ) → tableIn (over (tableBytes t) w) (length t) ≡ t
+pub table-back : (t : List Node) → ((k : ℕ) → k < length t → FitsNode (node t k)) → (w : List ℕ) → nodesAt (over (tableBytes t) w) 0 (length t) ≡ t
 table-back t f w = nodes-back t f _

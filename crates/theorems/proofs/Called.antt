@@ -1,0 +1,220 @@
+-- What the host's promise says of the 32 bytes, case by case: the lemmas below HostTop. Assumes nothing.
+use mathlib.Core.Path.{_≡_, refl, sym, ap, _∙_, subst}
+use Prim.Native.Nat.{ℕ, zero, suc, _+_, _*_, _/_, _%_, _^_, _≤_, _<_}
+use native.Mathlib.Omega.{arith}
+use native.Mathlib.Nat.{pow-suc}
+use mathlib.Core.Bool.{Bool, true, false}
+use mathlib.Core.List.{List, _++_}
+use mathlib.Core.Logic.{_↔_, inl, inr}
+use mathlib.Core.Option.{Option, none, some}
+use lib.ListN.{length, take, drop, length-take}
+use lib.Dec.{ltb}
+use borrow.Author.Tests.{lt-ltb, le-ltb}
+use Rattle.definitions.specs.Bytes.{lowFirst, bytesOf, two, twoAt}
+use Rattle.definitions.specs.Problem.Node.{tableBytes}
+use Rattle.definitions.specs.Problem.Check.{Refused, symbolCount, nodeCount, symbolsOf, nodesOf}
+use Rattle.definitions.specs.Logic.{Valid, holds}
+use Rattle.definitions.specs.Elimination.{tableOf}
+use Rattle.definitions.specs.Ranges.{product}
+use Rattle.definitions.specs.Places.{trueAt}
+use Rattle.definitions.specs.Verdict.{outcomeOf}
+use Rattle.definitions.specs.Witness.{tablesOf, witnessAt}
+use Rattle.definitions.specs.Operations.Answers.{Answer, decideRefusal, refused, given, unless, Decided, decided, decideAnswer}
+use Rattle.definitions.specs.Operations.Buffers.{over, workAfterDecide, witnessAfter}
+use Rattle.definitions.specs.Operations.Readings.{refusalRead, decisionRead}
+use Rattle.definitions.specs.Operations.Host.{answerBytes, thirtyTwo, HostOutcome, hostOutcome}
+use Rattle.definitions.specs.Operations.Promises.{DecidePromise, HostPromise}
+use Rattle.definitions.specs.declared.Refusal.{Refusal}
+use Rattle.definitions.specs.declared.Decision.{Decision}
+use Rattle.theorems.specs.Conditions.{number, place, Refuses, Passes}
+use Rattle.theorems.specs.Searched.{Falsifiable}
+use Rattle.theorems.specs.Called.{verdictIn, refusalIn, writtenIn, eightAt, placeIn, triedIn, productIn}
+use Rattle.theorems.proofs.Tables.Back.{two-back}
+use Rattle.theorems.proofs.Refusing.{refusal-named, place-small}
+use Rattle.theorems.proofs.Taken.{Taken}
+use Rattle.theorems.proofs.Witness.Falsifies.{witness-short}
+use Rattle.theorems.proofs.Decided.{decisionOf, decision-read, refused-exactly, refused-leaves, taken-input, valid-decision, falsified-decision, stopped-decision, valid-decided, falsified-decided}
+
+-- a number that fits its bytes is read back from them
+pub bytes-back : (k n : ℕ) → n < 256 ^ k → lowFirst (bytesOf k n) ≡ n
+bytes-back zero n h = omega arith
+bytes-back (suc k) n h =
+    let e = pow-suc 256 k in
+    let r = bytes-back k (n / 256) (omega arith) in
+    omega arith
+
+-- some decision is decide's, whatever the input
+pub decides : (s : List ℕ) (budget work room : ℕ) → (d : Decision) × (decisionRead d ≡ decideAnswer s budget work room)
+unfolding decideAnswer
+decides s budget work room = go (decideRefusal s work room) refl
+  where
+    go : (o : Option Refused) → decideRefusal s work room ≡ o
+        → (d : Decision) × (decisionRead d ≡ unless o (decided s (outcomeOf s budget)))
+    go none e = (decisionOf s (outcomeOf s budget), decision-read s (outcomeOf s budget))
+    go (some q) e =
+        let x = refusal-named s work room q e in
+        (Decision.Refused (x .0), ap refused (x .1))
+
+module _
+    (budget : ℕ)
+    (s work witness answer : List ℕ)
+    (r : ℕ)
+    (work′ witness′ answer′ : List ℕ)
+    (promise : HostPromise budget s work witness answer r work′ witness′ answer′) where
+  abbrev outcomeBy : Bool → HostOutcome
+  outcomeBy b =
+      elim b [
+        | true ↦ record { returned = 0; work = work; witness = witness; answer = answer }
+        | false ↦
+            record {
+              returned = 1;
+              work = workAfterDecide s work (length witness);
+              witness = witnessAfter s budget (length work) witness;
+              answer = over (answerBytes (decideAnswer s budget (length work) (length witness))) answer;
+            }
+      ]
+
+  outcome-by : (b : Bool) → ltb (length answer) 32 ≡ b → hostOutcome budget s work witness answer ≡ outcomeBy b
+  unfolding hostOutcome
+  outcome-by b e = ap outcomeBy e
+
+  -- a buffer that is too short is told by 0, and nothing is changed
+  pub short-call : length answer < 32 → (r ≡ 0) × (work′ ≡ work) × (witness′ ≡ witness) × (answer′ ≡ answer)
+  short-call h =
+      let o = outcome-by true (lt-ltb (length answer) 32 h) in (
+        promise .returns ∙ ap (λ (x : HostOutcome). x .returned) o,
+        promise .work-after ∙ ap (λ (x : HostOutcome). x .work) o,
+        promise .witness-after ∙ ap (λ (x : HostOutcome). x .witness) o,
+        promise .answer-after ∙ ap (λ (x : HostOutcome). x .answer) o,
+      )
+
+  -- in a longer one stand the bytes of a decision that is decide's, and then what stood there
+  pub long-call : 32 ≤ length answer
+      → (d : Decision) × DecidePromise budget s work witness d work′ witness′
+      × (answer′ ≡ over (answerBytes (decisionRead d)) answer) × (r ≡ 1)
+  long-call h =
+      let o = outcome-by false (le-ltb (length answer) 32 h) in
+      let d = decides s budget (length work) (length witness) in (
+        d .0,
+        record {
+          answers = d .1;
+          work-after = promise .work-after ∙ ap (λ (x : HostOutcome). x .work) o;
+          witness-after = promise .witness-after ∙ ap (λ (x : HostOutcome). x .witness) o;
+        },
+        promise .answer-after ∙ ap (λ (x : HostOutcome). x .answer) o
+            ∙ ap (λ (a : Answer Decided). over (answerBytes a) answer) (sym (d .1)),
+        promise .returns ∙ ap (λ (x : HostOutcome). x .returned) o,
+      )
+
+  -- what byte 0 tells
+  abbrev pub Told : ℕ → Type 0
+  Told zero =
+      (x : Refusal) × (refusalIn answer′ ≡ number x) × (placeIn answer′ ≡ place x) × Refuses s (length work) (length witness) x
+      × (witness′ ≡ witness) × (number x ≤ 12 → work′ ≡ work) × (number x ≡ 13 → work′ ≡ over (tableBytes (tableOf s)) work)
+  Told (suc zero) =
+      (productIn answer′ ≡ product s) × (triedIn answer′ ≡ product s) × (product s ≤ budget) × Valid s × (witness′ ≡ witness)
+  Told (suc (suc zero)) =
+      (productIn answer′ ≡ product s) × (1 ≤ triedIn answer′) × (triedIn answer′ ≤ product s) × (triedIn answer′ ≤ budget)
+      × (trueAt s (triedIn answer′) ≡ false) × ((p : ℕ) → 1 ≤ p → p < triedIn answer′ → trueAt s p ≡ true)
+      × (holds (tablesOf witness′) s ≡ false)
+      × (writtenIn answer′ ≡ length (witnessAt s (triedIn answer′)))
+      × (witness′ ≡ over (witnessAt s (triedIn answer′)) witness)
+  Told (suc (suc (suc zero))) =
+      (productIn answer′ ≡ product s) × (triedIn answer′ ≡ budget) × (budget < product s)
+      × ((p : ℕ) → 1 ≤ p → p ≤ budget → trueAt s p ≡ true) × (witness′ ≡ witness)
+  Told (suc (suc (suc (suc n)))) = ⊥
+
+  -- eight bytes are enough for the numbers of an answer
+  module _ (d : Decision) (decide : DecidePromise budget s work witness d work′ witness′) (values : Decided) (e : decisionRead d ≡ given values) where
+    input : Taken s (length work) (length witness)
+    input = taken-input budget s work witness d work′ witness′ decide values e
+
+    eight-back : (n : ℕ) → n ≤ product s → lowFirst (bytesOf 8 n) ≡ n
+    eight-back n h = let l = input .product-small in bytes-back 8 n (omega arith)
+
+    written-back : (p : ℕ) → twoAt (two (length (witnessAt s p))) 0 ≡ length (witnessAt s p)
+    written-back p = let l = witness-short s (input .problem) p in two-back (length (witnessAt s p)) (omega arith)
+
+  told-by : (d : Decision) → DecidePromise budget s work witness d work′ witness′ → answer′ ≡ over (answerBytes (decisionRead d)) answer
+      → Told (verdictIn answer′)
+  told-by (Decision.Valid t p) decide e =
+      let v = valid-decision budget s work witness (Decision.Valid t p) work′ witness′ decide t p refl in
+      let back = eight-back (Decision.Valid t p) decide _ refl in
+      subst Told (sym (ap verdictIn e)) (
+        ap productIn e ∙ back p (omega arith) ∙ v .0,
+        ap triedIn e ∙ back t (omega arith) ∙ v .1,
+        v .2,
+        v .3,
+        v .4,
+      )
+  told-by (Decision.Falsified t p w) decide e =
+      let f = falsified-decision budget s work witness (Decision.Falsified t p w) work′ witness′ decide t p w refl in
+      let back = eight-back (Decision.Falsified t p w) decide _ refl in
+      let count : triedIn answer′ ≡ t = ap triedIn e ∙ back t (f .2) in
+      subst Told (sym (ap verdictIn e)) (
+        ap productIn e ∙ back p (omega arith) ∙ f .0,
+        omega (arith, f .1),
+        omega (arith, f .2),
+        omega (arith, f .3),
+        ap (trueAt s) count ∙ f .4,
+        λ q l h. f .5 q l (omega arith),
+        f .6,
+        ap writtenIn e ∙ ap (λ n. twoAt (two n) 0) (f .7) ∙ written-back (Decision.Falsified t p w) decide _ refl t
+            ∙ ap (λ n. length (witnessAt s n)) (sym count),
+        f .8 ∙ ap (λ n. over (witnessAt s n) witness) (sym count),
+      )
+  told-by (Decision.Stopped t p) decide e =
+      let v = stopped-decision budget s work witness (Decision.Stopped t p) work′ witness′ decide t p refl in
+      let back = eight-back (Decision.Stopped t p) decide _ refl in
+      subst Told (sym (ap verdictIn e)) (
+        ap productIn e ∙ back p (omega arith) ∙ v .0,
+        ap triedIn e ∙ back t (omega arith) ∙ v .1,
+        v .2,
+        v .3,
+        v .4,
+      )
+  told-by (Decision.Refused x) decide e =
+      let c = refused-exactly budget s work witness (Decision.Refused x) work′ witness′ decide x .0 refl in
+      let l = refused-leaves budget s work witness (Decision.Refused x) work′ witness′ decide x refl in
+      let small = place-small s (length work) (length witness) x c in
+      subst Told (sym (ap verdictIn e)) (x, ap refusalIn e, ap placeIn e ∙ bytes-back 8 (place x) (omega arith), c, l .0, l .1, l .2)
+
+  pub told : 32 ≤ length answer → Told (verdictIn answer′)
+  told h = let c = long-call h in told-by (c .0) (c .1) (c .2)
+
+  told-code : (n : ℕ) → Told n → n ≤ 3
+  told-code zero t = omega arith
+  told-code (suc zero) t = omega arith
+  told-code (suc (suc zero)) t = omega arith
+  told-code (suc (suc (suc zero))) t = omega arith
+  told-code (suc (suc (suc (suc n)))) t = absurd t
+
+  past-bytes : (a : Answer Decided) → drop 32 (over (answerBytes a) answer) ≡ drop 32 answer
+  past-bytes (refused x) = refl
+  past-bytes (given d) = refl
+
+  pub past-answer : 32 ≤ length answer → (r ≡ 1) × (verdictIn answer′ ≤ 3) × (drop 32 answer′ ≡ drop 32 answer)
+  past-answer h =
+      let c = long-call h in
+      (c .3, told-code (verdictIn answer′) (told h), ap (drop 32) (c .2) ∙ past-bytes (decisionRead (c .0)))
+
+  -- with a budget of at least the product
+  pub told-enough : 32 ≤ length answer → Passes s (length work) (length witness) → product s ≤ budget
+      → ((verdictIn answer′ ≡ 1) ↔ Valid s) × ((verdictIn answer′ ≡ 2) ↔ Falsifiable s)
+  told-enough h p enough =
+      let c = long-call h in
+      let d = c .0 in
+      let byte : (q : Decision) → d ≡ q → verdictIn answer′ ≡ verdictIn (over (answerBytes (decisionRead q)) answer) =
+      λ q e. ap verdictIn (c .2) ∙ ap (λ (q : Decision). verdictIn (over (answerBytes (decisionRead q)) answer)) e
+      in (
+        (
+          λ e. subst Told e (told h) .3,
+          λ v. byte (Decision.Valid (product s) (product s)) (valid-decided budget s work witness d work′ witness′ (c .1) p enough .1 v),
+        ),
+        (
+          λ e. (tablesOf witness′, subst Told e (told h) .6),
+          λ f.
+              let q = falsified-decided budget s work witness d work′ witness′ (c .1) p enough .1 f in
+              byte (Decision.Falsified (q .0) (product s) (q .1)) (q .2),
+        ),
+      )

@@ -1,0 +1,87 @@
+-- The thirteen conditions, each as a fact of the input (01, 'Refusal numbers'): what a refusal says. s are the problem bytes, work
+-- and room the lengths of the work buffer and of the witness buffer. That the definitions refuse exactly so is proved (Refusing).
+-- Assumes nothing.
+use mathlib.Core.Path.{_≡_}
+use Prim.Native.Nat.{ℕ, _+_, _*_, _^_, _≤_, _<_}
+use mathlib.Core.Bool.{Bool, true, false}
+use mathlib.Core.List.{List}
+use mathlib.Core.Logic.{_⊎_}
+use lib.ListN.{length, getD, take}
+use Rattle.definitions.specs.Bytes.{twoAt, EQP}
+use Rattle.definitions.specs.Problem.Node.{node}
+use Rattle.definitions.specs.Problem.Ops.{nodeRight}
+use Rattle.definitions.specs.Problem.Check.{
+  symbolCount,
+  nodeCount,
+  symbolsOf,
+  nodesOf,
+  stands,
+  symbolByteRight,
+  termAsked,
+  functionsIn,
+  predicatesIn,
+}
+use Rattle.definitions.specs.Ranges.{product}
+use Rattle.definitions.specs.Operations.Readings.{refusalRead}
+use Rattle.definitions.specs.declared.Refusal.{Refusal}
+use Rattle.definitions.specs.declared.Refusal.the-variants.{
+  TooShort,
+  NotEqp,
+  BadVersion,
+  BadCounts,
+  BadLength,
+  BadSymbol,
+  BadNode,
+  TermAsked,
+  ManyFunctions,
+  ManyPredicates,
+  ShortWork,
+  ShortWitness,
+  BigProduct,
+}
+
+-- k is the first of n things that is not right
+pub record FirstWrong (right : ℕ → Bool) (n k : ℕ) : Type 0 where
+  pub within : k < n
+  pub wrong : right k ≡ false
+  pub before : (j : ℕ) → j < k → right j ≡ true
+
+-- symbol k has a right byte; node k is right after the nodes before it
+abbrev pub symbolFine : List ℕ → ℕ → Bool
+symbolFine s k = symbolByteRight (getD (symbolsOf s) k 0)
+
+abbrev pub nodeFine : List ℕ → ℕ → Bool
+nodeFine s k = nodeRight (symbolsOf s) (take k (nodesOf s)) (node (nodesOf s) k)
+
+-- the input meets the condition of a refusal
+abbrev pub Meets : List ℕ → ℕ → ℕ → Refusal → Type 0
+Meets s work room TooShort = length s < 8
+Meets s work room NotEqp = stands s 0 EQP ≡ false
+Meets s work room BadVersion = twoAt s 3 ≡ 1 → ⊥
+Meets s work room BadCounts = (32 < symbolCount s) ⊎ ((nodeCount s ≡ 0) ⊎ (256 < nodeCount s))
+Meets s work room BadLength = length s ≡ 8 + symbolCount s + 8 * nodeCount s → ⊥
+Meets s work room (BadSymbol k) = FirstWrong (symbolFine s) (length (symbolsOf s)) k
+Meets s work room (BadNode k) = FirstWrong (nodeFine s) (length (nodesOf s)) k
+Meets s work room TermAsked = termAsked (nodesOf s) ≡ true
+Meets s work room ManyFunctions = 24 < functionsIn (nodesOf s)
+Meets s work room ManyPredicates = 16 < predicatesIn (nodesOf s)
+Meets s work room ShortWork = work < 21056
+Meets s work room ShortWitness = room < 206
+Meets s work room BigProduct = 10 ^ 18 < product s
+
+abbrev pub number : Refusal → ℕ
+number x = refusalRead x .number
+
+abbrev pub place : Refusal → ℕ
+place x = refusalRead x .place
+
+-- it is the first in the order tried whose condition the input meets
+abbrev pub Refuses : List ℕ → ℕ → ℕ → Refusal → Type 0
+Refuses s work room x = Meets s work room x × ((y : Refusal) → number y < number x → Meets s work room y → ⊥)
+
+-- the input passes the conditions 1 to 12, after which the table is laid; it passes all thirteen
+abbrev pub PassesTwelve : List ℕ → ℕ → ℕ → Type 0
+PassesTwelve s work room = (x : Refusal) → number x ≤ 12 → Meets s work room x → ⊥
+
+abbrev pub Passes : List ℕ → ℕ → ℕ → Type 0
+Passes s work room = (x : Refusal) → Meets s work room x → ⊥

@@ -1,0 +1,4 @@
+pub mod Conditions
+pub mod Searched
+pub mod Classes
+pub mod Called
