@@ -1,4 +1,4 @@
--- The size of each range, by its place in the odometer. Assumes nothing.
+-- The size of each range, by its position in the odometer. Assumes nothing.
 use Prim.Native.Nat.{ℕ}
 use mathlib.Core.List.{List}
 use mathlib.Core.Bool.{cond}

@@ -3,11 +3,11 @@ use Prim.Native.Nat.{ℕ, zero, suc, _+_, _*_, _/_, _%_}
 use mathlib.Core.List.{List, [], _∷_}
 use lib.ListN.{getD}
 
--- the byte at a place; 0 past the end
+-- the byte at an offset; 0 past the end
 abbrev pub byteAt : List ℕ → ℕ → ℕ
 byteAt s i = getD s i 0
 
--- the two-byte number at a place
+-- the two-byte number at an offset
 abbrev pub twoAt : List ℕ → ℕ → ℕ
 twoAt s i = byteAt s i + 256 * byteAt s (i + 1)
 

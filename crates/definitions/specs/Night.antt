@@ -7,7 +7,7 @@ use lib.Dec.{eqb, leb}
 use Rattle.definitions.specs.Bytes.{twoAt, lowFirst}
 use Rattle.definitions.specs.Operations.Answers.{Answer, refused, given, Verdict, isValid, isFalsified, isStopped, Decided, decideAnswer}
 
--- the decimal digits of a number, before those in hand; a number has fewer digits than itself, but for 0, so it is fuel enough
+-- the decimal digits of a number, before those in hand; n has at most n digits, and 0 has one, so n + 1 is fuel enough
 abbrev pub digits : ℕ → ℕ → List ℕ → List ℕ
 digits zero n ds = ds
 digits (suc fuel) n ds =

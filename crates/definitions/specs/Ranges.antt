@@ -61,7 +61,7 @@ abbrev pub howMany : Variables → ℕ → ℕ
 howMany f zero = 0
 howMany f (suc n) = cond (f n) 1 0 + howMany f n
 
--- the place of a variable in its component, by number, from 1
+-- the rank of a variable: its position in its component, by number, from 1
 abbrev pub rank : (ℕ → ℕ → Bool) → ℕ → ℕ
 rank same v = suc (howMany (same v) v)
 

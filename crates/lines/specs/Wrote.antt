@@ -1,4 +1,4 @@
--- What the contracts of the line writers cite: bytes written into a line at a place. Assumes nothing.
+-- What the contracts of the line writers cite: bytes written into a line from an offset on. Assumes nothing.
 use Prim.Native.Nat.{ℕ, _+_}
 use mathlib.Core.Path.{_≡_}
 use mathlib.Core.List.{List, _++_}
@@ -6,7 +6,7 @@ use mathlib.Core.Bool.{Bool, true, false}
 use lib.ListN.{length, take}
 use Rattle.definitions.specs.Night.{word, decimal, END, CUT}
 
--- what stood before the place stands, the bytes come after it, and next is the place after them
+-- what stood before the offset stands, the bytes come after it, and next is the offset after them
 pub record Wrote (before : List ℕ) (at : ℕ) (bytes after : List ℕ) (next : ℕ) : Type 0 where
   pub stands : take next after ≡ take at before ++ bytes
   pub ends : next ≡ at + length bytes

@@ -1,4 +1,4 @@
--- What is left of a scan from a place on: the first node that is the same, the distinct applications. One more place either ends the
+-- What is left of a scan from node k on: the first node that is the same, the distinct applications. One more step either ends the
 -- scan or leaves what is left after it. Assumes nothing.
 use mathlib.Core.Path.{_≡_, refl, sym, ap, ap₂, _∙_}
 use Prim.Native.Nat.{ℕ, suc, _+_, _≤_, _<_}

@@ -20,7 +20,7 @@ LeavesAre t k sets = (i v : ℕ) → i < k → inSet (getD sets i 0) v ≡ leaf 
 abbrev pub ClassesAre : List Node → ℕ → List ℕ → Type 0
 ClassesAre t N sets = (u v : ℕ) → u < N → v < N → inSet (getD sets u 0) v ≡ joined t N u v
 
--- the place of a variable in its class
+-- the position of a variable in its class, by number, from 1
 abbrev pub rankIn : List ℕ → ℕ → ℕ
 rankIn sets v = suc (howMany (inSet (getD sets v 0)) v)
 

@@ -9,7 +9,7 @@ ghost use Rattle.ranges.specs.Sets.{inSet, rankIn};
 ghost use Rattle.ranges.specs.Spans.{ProductIs};
 use crate::components::has;
 
-// The place of a variable in its component, by number, from 1.
+// The position of a variable in its component, by number, from 1.
 fn rank(component: u32, v: usize) -> u8
     requires { ⌜ v < 24 ⌝ }
     ensures { λ r. ⌜ r ≡ suc (howMany (inSet component) v) ⌝ }

@@ -11,7 +11,7 @@ use Rattle.definitions.specs.Ranges.{howMany, linked}
 abbrev pub LinksInside : List Node → ℕ → (ℕ → ℕ → Bool) → Type 0
 LinksInside t N J = (u v : ℕ) → u < N → v < N → linked t u v ≡ true → J u v ≡ true
 
--- the top of a variable is its place in its class by number; the tops of N variables
+-- the top of a variable is its position in its class by number; the tops of N variables
 abbrev pub topIn : (ℕ → ℕ → Bool) → ℕ → ℕ
 topIn J v = suc (howMany (J v) v)
 

@@ -75,7 +75,7 @@ pub record Picked (cells : List ℕ) (left right same apart : ℕ) (lanes : List
   pub lane : (l : ℕ) → l < 16
       → getD lanes l 0 ≡ chosen (getD cells (left + l) 0) (getD cells (right + l) 0) (getD cells (same + l) 0) (getD cells (apart + l) 0)
 
--- sixteen lanes laid at a place of the cells
+-- sixteen lanes laid at an offset of the cells
 pub record LanesLaid (before : List ℕ) (at : ℕ) (lanes after : List ℕ) : Type 0 where
   pub inside : (l : ℕ) → l < 16 → getD after (at + l) 0 ≡ getD lanes l 0
   pub outside : (i : ℕ) → (i < at) ⊎ (at + 16 ≤ i) → getD after i 0 ≡ getD before i 0

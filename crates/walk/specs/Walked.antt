@@ -1,4 +1,4 @@
--- What the walk promises: every place up to the count was evaluated, all before the last are true, and the last is false exactly
+-- What the walk promises: every place up to the count was looked at, all before the last are true, and the last is false exactly
 -- where it says so. Assumes nothing.
 use mathlib.Core.Path.{_≡_}
 use Prim.Native.Nat.{ℕ, _+_, _≤_, _<_}

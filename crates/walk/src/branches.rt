@@ -42,7 +42,7 @@ fn where_true(condition: usize, same: usize, apart: usize) -> Branch
     }
 }
 
-// The cell of the node whose number stands at a place of the table.
+// The cell of the node whose number stands at an offset of the table.
 fn cell_at(table: &[u8], at: usize) -> usize
     requires { ⌜ at + 1 < length (now table) ⌝ }
     ensures { λ r. ⌜ r ≡ 42 + twoAt (now (table .entry)) at ⌝ }

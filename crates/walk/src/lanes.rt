@@ -43,7 +43,7 @@ fn pick(cells: &[u8], left: usize, right: usize, same: usize, apart: usize) -> [
     lanes
 }
 
-// Sixteen lanes go to a place of the cells.
+// Sixteen lanes go to an offset of the cells.
 pub fn put_lanes(cells: &mut [u8], at: usize, lanes: [u8; 16])
     requires { ⌜ at + 16 ≤ length (now cells) ⌝ }
     ensures { λ r. ⌜ LanesLaid (now (cells .entry)) at lanes (now (cells .exit)) ⌝ }

@@ -1,5 +1,5 @@
-// The walk: the places are evaluated in order, from place 1 on and sixteen at a time, until one is false or as many as allowed
-// are tried.
+// The walk: the places are looked at in order, from place 1 on, until one is false or as many as allowed are tried. They are
+// worked out sixteen at a time, so up to fifteen are worked out past the last that is looked at.
 ghost use mathlib.Core.Path.{_≡_};
 ghost use Prim.Native.Nat.{_+_, _*_, _≤_, min};
 ghost use lib.ListN.{length};
@@ -16,7 +16,8 @@ pub mod branches;
 pub mod lanes;
 pub mod odometer;
 
-// How far the walk went: the assignments evaluated, and whether the last of them is false.
+// How far the walk went: the places looked at, in order from place 1, and whether the last of them is false. Places of the same
+// sixteen past the last one looked at have been worked out too; they are not counted, and nothing depends on them.
 pub struct Walked {
     pub tried: u64,
     pub falsified: bool,

@@ -25,7 +25,7 @@ symbolsOf s = take (symbolCount s) (drop 8 s)
 abbrev pub nodesOf : List ℕ → List Node
 nodesOf s = nodesAt s (8 + symbolCount s) (nodeCount s)
 
--- these bytes stand from a place on
+-- these bytes stand from an offset on
 abbrev pub stands : List ℕ → ℕ → List ℕ → Bool
 stands s i [] = true
 stands s i (x ∷ xs) = eqb (byteAt s i) x && stands s (suc i) xs

@@ -31,12 +31,12 @@ abbrev pub same : Node → Node → Bool
 same m n =
     eqb (m .op) (n .op) && eqb (m .sym) (n .sym) && eqb (m .a) (n .a) && eqb (m .b) (n .b) && eqb (m .c) (n .c)
 
--- the node whose eight bytes stand at a place
+-- the node whose eight bytes stand at an offset
 abbrev pub nodeAt : List ℕ → ℕ → Node
 nodeAt s i =
     record { op = byteAt s i; sym = byteAt s (i + 1); a = twoAt s (i + 2); b = twoAt s (i + 4); c = twoAt s (i + 6) }
 
--- the n nodes that stand one after the other from a place on
+-- the n nodes that stand one after the other from an offset on
 abbrev pub nodesAt : List ℕ → ℕ → ℕ → List Node
 nodesAt s i zero = []
 nodesAt s i (suc n) = nodeAt s i ∷ nodesAt s (i + 8) n

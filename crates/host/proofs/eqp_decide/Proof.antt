@@ -1,5 +1,6 @@
 -- `eqp_decide` answers a short buffer by 0, and else lays down what `decide` answers. Assumes nothing.
 use borrow.Author.Needs.{needs}
+use native.Mathlib.Omega.{arith}
 use Rattle.host.proofs.Calls.{short-answer, answer-laid}
 use Rattle.host.proofs.eqp_decide.Statement.{statement}
 use Rattle.host.proofs.eqp_decide.Tie as tie
@@ -7,7 +8,7 @@ use Rattle.host.proofs.eqp_decide.Tie as tie
 returns : tie.Need-returns
 returns c =
     let s = c .before .before .before .before .before .args in
-    short-answer (s .budget) (s .problem .now) (s .work .now) (s .witness .now) (s .answer .now) (c .if1 .taken)
+    short-answer (s .budget) (s .problem .now) (s .work .now) (s .witness .now) (s .answer .now) (omega arith)
 
 decide-requires : tie.Need-decide-requires
 decide-requires c κs = search needs

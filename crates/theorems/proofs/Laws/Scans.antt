@@ -1,4 +1,4 @@
--- A scan for the first that is not right: the first that fails a test, the first wrong node. One more place either ends the scan or
+-- A scan for the first that is not right: the first that fails a test, the first wrong node. One more step either ends the scan or
 -- leaves what is left after it; so a scan from the start finds exactly the first that is not right. Assumes nothing.
 use mathlib.Core.Path.{_≡_, refl, sym, ap, ap₂, _∙_}
 use Prim.Native.Nat.{ℕ, zero, suc, _+_, _≤_, _<_}
@@ -18,7 +18,7 @@ use Rattle.definitions.specs.Problem.Check.{firstWrong}
 use Rattle.theorems.specs.Conditions.{FirstWrong}
 use Rattle.theorems.proofs.Laws.Tests.{split, none≢some, some-same}
 
--- the first member from place k on that fails a test
+-- the first member from k on that fails a test
 abbrev pub failingFrom : {A : Type 0} → (A → Bool) → List A → ℕ → Option ℕ
 failingFrom f xs k = firstFailing f k (drop k xs)
 
