@@ -8,7 +8,6 @@ use mathlib.Core.Option.{Option, none, some}
 use lib.ListN.{getD, take}
 use lib.Dec.{ltb}
 use borrow.Author.Tests.{lt-ltb, le-ltb}
-use Rattle.definitions.specs.Lists.{firstOf}
 use Rattle.definitions.specs.Problem.Node.{node}
 use Rattle.definitions.specs.Problem.Ops.{opOf, sortOf, sameSort, term}
 use Rattle.definitions.specs.Problem.Check.{

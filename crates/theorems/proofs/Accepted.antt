@@ -3,12 +3,12 @@ use mathlib.Core.Path.{_≡_, refl, sym, ap}
 use Prim.Native.Nat.{ℕ, zero, suc, _+_, _*_, _≤_}
 use native.Mathlib.Omega.{arith}
 use mathlib.Core.Bool.{Bool, true, false, not, _||_, true≢false}
-use mathlib.Core.List.{List, [], _∷_}
+use mathlib.Core.List.{List, []}
 use mathlib.Core.Option.{Option, none, some}
 use lib.ListN.{length}
 use lib.Dec.{eqb, ltb}
 use borrow.Author.Tests.{ltb-false, eqb-true, eqb-false, not-false}
-use Rattle.definitions.specs.Lists.{firstOf, firstFailing}
+use Rattle.definitions.specs.Lists.{firstFailing}
 use Rattle.definitions.specs.Bytes.{twoAt, EQP}
 use Rattle.definitions.specs.Problem.Node.{nodesAt}
 use Rattle.definitions.specs.Problem.Check.{symbolCount, nodeCount, symbolsOf, nodesOf, stands, symbolByteRight, firstWrong, termAsked, functionsIn, predicatesIn, refuseIf, refuseAt, checkConditions, refusalOf}

@@ -1,18 +1,18 @@
 -- What the host's promise says of the 32 bytes, case by case: the lemmas below HostTop. Assumes nothing.
 use mathlib.Core.Path.{_≡_, refl, sym, ap, _∙_, subst}
-use Prim.Native.Nat.{ℕ, zero, suc, _+_, _*_, _/_, _%_, _^_, _≤_, _<_}
+use Prim.Native.Nat.{ℕ, zero, suc, _/_, _^_, _≤_, _<_}
 use native.Mathlib.Omega.{arith}
 use native.Mathlib.Nat.{pow-suc}
 use mathlib.Core.Bool.{Bool, true, false}
-use mathlib.Core.List.{List, _++_}
-use mathlib.Core.Logic.{_↔_, inl, inr}
+use mathlib.Core.List.{List}
+use mathlib.Core.Logic.{_↔_}
 use mathlib.Core.Option.{Option, none, some}
-use lib.ListN.{length, take, drop, length-take}
+use lib.ListN.{length, drop}
 use lib.Dec.{ltb}
 use borrow.Author.Tests.{lt-ltb, le-ltb}
 use Rattle.definitions.specs.Bytes.{lowFirst, bytesOf, two, twoAt}
 use Rattle.definitions.specs.Problem.Node.{tableBytes}
-use Rattle.definitions.specs.Problem.Check.{Refused, symbolCount, nodeCount, symbolsOf, nodesOf}
+use Rattle.definitions.specs.Problem.Check.{Refused}
 use Rattle.definitions.specs.Logic.{Valid, holds}
 use Rattle.definitions.specs.Elimination.{tableOf}
 use Rattle.definitions.specs.Ranges.{product}
@@ -21,14 +21,14 @@ use Rattle.definitions.specs.Verdict.{outcomeOf}
 use Rattle.definitions.specs.Witness.{tablesOf, witnessAt}
 use Rattle.definitions.specs.Operations.Answers.{Answer, decideRefusal, refused, given, unless, Decided, decided, decideAnswer}
 use Rattle.definitions.specs.Operations.Buffers.{over, workAfterDecide, witnessAfter}
-use Rattle.definitions.specs.Operations.Readings.{refusalRead, decisionRead}
-use Rattle.definitions.specs.Operations.Host.{answerBytes, thirtyTwo, HostOutcome, hostOutcome}
+use Rattle.definitions.specs.Operations.Readings.{decisionRead}
+use Rattle.definitions.specs.Operations.Host.{answerBytes, HostOutcome, hostOutcome}
 use Rattle.definitions.specs.Operations.Promises.{DecidePromise, HostPromise}
 use Rattle.definitions.specs.declared.Refusal.{Refusal}
 use Rattle.definitions.specs.declared.Decision.{Decision}
 use Rattle.theorems.specs.Conditions.{number, place, Refuses, Passes}
 use Rattle.theorems.specs.Searched.{Falsifiable}
-use Rattle.theorems.specs.Called.{verdictIn, refusalIn, writtenIn, eightAt, placeIn, triedIn, productIn}
+use Rattle.theorems.specs.Called.{verdictIn, refusalIn, writtenIn, placeIn, triedIn, productIn}
 use Rattle.theorems.proofs.Tables.Back.{two-back}
 use Rattle.theorems.proofs.Refusing.{refusal-named, place-small}
 use Rattle.theorems.proofs.Taken.{Taken}

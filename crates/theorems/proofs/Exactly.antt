@@ -6,7 +6,7 @@ use native.Mathlib.Omega.{arith}
 use mathlib.Core.Bool.{false, false≢true}
 use mathlib.Core.Logic.{_↔_, inl, inr}
 use mathlib.Core.List.{List}
-use Rattle.definitions.specs.Logic.{Interpretation, holds, Valid}
+use Rattle.definitions.specs.Logic.{Valid}
 use Rattle.definitions.specs.Ranges.{product}
 use Rattle.definitions.specs.Places.{trueAt}
 use Rattle.definitions.specs.Verdict.{valid, falsified, stopped, outcomeOf}

@@ -52,7 +52,7 @@ use Rattle.definitions.specs.declared.Refusal.the-variants.{
   BigProduct,
 }
 use Rattle.theorems.specs.Conditions.{Meets, number, place, Refuses, PassesTwelve, Passes}
-use Rattle.theorems.proofs.Laws.Tests.{or-cases, or-left, or-right, split, none≢some, some-same}
+use Rattle.theorems.proofs.Laws.Tests.{or-cases, or-left, or-right, none≢some, some-same}
 use Rattle.theorems.proofs.Laws.First.{AllNone, all-none, first-where, none-at, there-below, first-append}
 use Rattle.theorems.proofs.Laws.Scans.{failing-first, wrong-first}
 use Rattle.theorems.proofs.Accepted.{length-nodesAt}

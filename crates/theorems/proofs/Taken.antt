@@ -1,5 +1,5 @@
--- What an answer of decide says of the input: which refusals did not apply, and which outcome the search has. Assumes nothing.
-use mathlib.Core.Path.{_≡_, refl, sym, ap, _∙_}
+-- What an answer of decide says of the input: which refusals did not apply. Assumes nothing.
+use mathlib.Core.Path.{_≡_, refl}
 use Prim.Native.Nat.{ℕ, _^_, _≤_}
 use native.Mathlib.Omega.{arith}
 use mathlib.Core.List.{List, [], _∷_}
@@ -8,8 +8,7 @@ use lib.Dec.{ltb}
 use borrow.Author.Tests.{ltb-false}
 use Rattle.definitions.specs.Problem.Check.{Refused, refusalOf}
 use Rattle.definitions.specs.Ranges.{product}
-use Rattle.definitions.specs.Verdict.{Outcome, valid, falsified, stopped, outcomeOf}
-use Rattle.definitions.specs.Operations.Answers.{shortWork, shortWitness, bigProduct, eliminateRefusal, buffersRefusal, decideRefusal, refused, given, unless, Verdict, isValid, isFalsified, isStopped, Decided, decided, decideAnswer}
+use Rattle.definitions.specs.Operations.Answers.{shortWork, shortWitness, bigProduct, eliminateRefusal, buffersRefusal, decideRefusal, refused, given, unless}
 use Rattle.theorems.proofs.Laws.First.{all-none}
 use Rattle.theorems.proofs.Accepted.{Accepted, accepted, if-none}
 
@@ -49,42 +48,3 @@ given-taken (some r) v w e = absurd (let z : _≡_ {A = ℕ} 0 1 = cc in omega a
 pub refused-taken : {A : Type 0} (o : Option Refused) (v : A) (q : Refused) → refused q ≡ unless o v → o ≡ some q
 refused-taken none v q e = absurd (let z : _≡_ {A = ℕ} 0 1 = cc in omega arith)
 refused-taken (some r) v q e = cc
-
--- the outcome with a verdict and a count
-abbrev pub outcomeWith : Verdict → ℕ → Outcome
-outcomeWith isValid tried = valid tried
-outcomeWith isFalsified tried = falsified tried
-outcomeWith isStopped tried = stopped tried
-
-decided-outcome : (s : List ℕ) (o : Outcome) → o ≡ outcomeWith (decided s o .verdict) (decided s o .tried)
-decided-outcome s (valid t) = refl
-decided-outcome s (falsified t) = refl
-decided-outcome s (stopped t) = refl
-
-decided-product : (s : List ℕ) (o : Outcome) → decided s o .product ≡ product s
-decided-product s (valid t) = refl
-decided-product s (falsified t) = refl
-decided-product s (stopped t) = refl
-
--- an answer that is no refusal has the outcome of the search, and the product
-pub record Answered (s : List ℕ) (budget work room : ℕ) (d : Decided) : Type 0 where
-  pub input : Taken s work room
-  pub outcome : outcomeOf s budget ≡ outcomeWith (d .verdict) (d .tried)
-  pub product-is : d .product ≡ product s
-
-pub answered : (s : List ℕ) (budget work room : ℕ) (d : Decided) → given d ≡ decideAnswer s budget work room → Answered s budget work room d
-unfolding decideAnswer
-answered s budget work room d e =
-    let o = outcomeOf s budget in
-    let g = given-taken (decideRefusal s work room) (decided s o) d e in
-    record {
-      input = taken s work room (g .0);
-      outcome = decided-outcome s o ∙ ap (λ (x : Decided). outcomeWith (x .verdict) (x .tried)) (sym (g .1));
-      product-is = ap (λ (x : Decided). x .product) (g .1) ∙ decided-product s o;
-    }
-
--- and the other way round: a taken input is answered with its outcome
-pub answers : (s : List ℕ) (budget work room : ℕ) → decideRefusal s work room ≡ none
-    → decideAnswer s budget work room ≡ given (decided s (outcomeOf s budget))
-unfolding decideAnswer
-answers s budget work room e = ap (λ (o : Option Refused). unless o (decided s (outcomeOf s budget))) e
