@@ -1,0 +1,37 @@
+-- Bytes put at the start of a lent tail: what the whole buffer is once the tail is back. Assumes nothing.
+use borrow.Rule.Slice.PartMut.{putMid, midOf, postOf}
+use native.Mathlib.Omega.{arith}
+use mathlib.Core.Path.{_≡_, sym, ap, ap₂, _∙_}
+use Prim.Native.Nat.{ℕ, _+_, _-_, _≤_}
+use mathlib.Core.List.{List, [], _++_, append-assoc, append-nil}
+use lib.ListN.{length, take, drop, length-append, length-drop}
+use lib.Seq.{take-all, take-at, drop-at, drop-drop, drop-length}
+use Rattle.definitions.specs.Operations.Buffers.{over}
+
+module _ (before : List ℕ) (at : ℕ) (fits : at ≤ length before) where
+  -- the tail that is lent is all that stands from there on
+  pub tail-whole : midOf at (length before - at) before ≡ drop at before
+  tail-whole = take-all (length before - at) (drop at before) (omega (arith, length-drop at before))
+
+  nothing-after : postOf at (length before - at) before ≡ []
+  nothing-after = ap (λ k. drop k (drop at before)) (sym (length-drop at before)) ∙ drop-length (drop at before)
+
+  -- what was put at its start stands there; what stood before it and after it stays
+  pub put-there : (bytes ys : List ℕ) → ys ≡ over bytes (midOf at (length before - at) before)
+      → putMid at (length before - at) before ys ≡ take at before ++ bytes ++ drop (at + length bytes) before
+  put-there bytes ys y =
+      ap (λ l. take at before ++ l)
+      (ap₂ {C = List ℕ} (λ x z. x ++ z)
+      (y ∙ ap (over bytes) tail-whole ∙ ap (λ z. bytes ++ z) (drop-drop (length bytes) at before)) nothing-after
+      ∙ append-nil (bytes ++ drop (at + length bytes) before))
+      ∙ sym (append-assoc (take at before) bytes (drop (at + length bytes) before))
+
+-- what stands straight after the bytes laid so far is laid too
+pub over-more : (before laid buffer bytes : List ℕ) (at : ℕ) → before ≡ over laid buffer → length laid ≡ at
+    → take at before ++ bytes ++ drop (at + length bytes) before ≡ over (laid ++ bytes) buffer
+over-more before laid buffer bytes at e l =
+    let rest = drop (length laid) buffer in
+    let n = length bytes in
+    ap₂ {C = List ℕ} (λ x z. x ++ bytes ++ z) (ap (take at) e ∙ take-at laid rest at l)
+    (sym (drop-drop n at before) ∙ ap (drop n) (ap (drop at) e ∙ drop-at laid rest at l) ∙ drop-drop n (length laid) buffer
+    ∙ ap (λ k. drop k buffer) (sym (length-append laid bytes)))
