@@ -8,13 +8,13 @@ use lib.ListN.{length, getD, take, drop, length-drop}
 use Rattle.definitions.specs.Problem.Node.{Node, node}
 use Rattle.definitions.specs.Problem.Check.{nodeCount, symbolsOf, nodesOf}
 use Rattle.problem.proofs.NodeLaws.{node-stands}
+use Rattle.problem.proofs.Putting.{tail-whole, put-there}
 use Rattle.definitions.specs.Problem.Ops.{arity}
 use Rattle.definitions.specs.Elimination.{imagesOf}
 use Rattle.definitions.specs.Witness.{Row, rowBytes}
 use Rattle.elimination.specs.State.{stateAt, three}
 use Rattle.elimination.specs.declared.laid.Laid.{Laid}
-use Rattle.elimination.proofs.Laying.{tail-whole}
-use Rattle.decision.proofs.RowLaws.{image-fits, rows-room, row-read, row-placed}
+use Rattle.decision.proofs.RowLaws.{image-fits, rows-room, row-read}
 use Rattle.decision.proofs.witness.write_row.Statement.{statement}
 use Rattle.decision.proofs.witness.write_row.Tie as tie
 
@@ -206,7 +206,7 @@ returns c = λ p are.
     let old = st .args .witness .now in
     let i = st .args .i in
     let values = st .args .values .now in
-    row-placed old _ (c .before .before .put-row .last .0) (6 + 5 * i) (omega arith) (c .before .before .put-row .ensures)
+    put-there old (6 + 5 * i) (omega arith) _ (c .before .before .put-row .last .0) (c .before .before .put-row .ensures)
     ∙ ap (λ (r : Row). take (6 + 5 * i) old ++ rowBytes r ++ drop (6 + 5 * i + 5) old)
     (row-read (s st) (st .pre .0) (all st) (st .pre .2) i (st .pre .3) p values (given .images-of .result) (operands-read given)
     _

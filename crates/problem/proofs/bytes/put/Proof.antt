@@ -22,7 +22,7 @@ loop-holds c = (paste-zero (c .args .tail .now) 0 (c .args .bytes .now), omega a
 
 -- the copy so far is as long as the tail
 kept : (c : tie.At-loop Inv-loop μ-loop) → length (c .loop .tail) ≡ length (c .before .args .tail .now)
-kept c = 
+kept c =
     let s = c .before .args in
     ap length (c .loop .inv .0) ∙ length-paste (s .tail .now) 0 (s .bytes .now) (c .loop .i) (omega arith) (omega arith)
 
