@@ -44,7 +44,7 @@ put-more before laid buffer bytes ys at l e y =
     let fits : at ≤ length before = omega (arith, ap length e, length-append laid (drop (length laid) buffer)) in
     put-there before at fits bytes ys y ∙ over-more before laid buffer bytes at l e
 
--- bytes laid over no more of them hide these
+-- what was laid first does not show where no fewer bytes are laid over it
 pub over-over : (bytes first buffer : List ℕ) → length first ≤ length bytes → over bytes (over first buffer) ≡ over bytes buffer
 over-over bytes first buffer h =
     let k = length bytes - length first in
