@@ -5,13 +5,14 @@ use native.Mathlib.Omega.{arith}
 use mathlib.Core.Bool.{Bool, cond}
 use mathlib.Core.List.{List, [], _∷_, _++_}
 use mathlib.Core.Logic.{inl, inr}
-use lib.ListN.{length, getD, take, set, replicate, length-replicate, length-append, length-set, getD-replicate, List·getD-append, List·getD-eq-default}
-use lib.Seq.{getD-take, length-take-le, getD-append-add, ext-getD, getD-set-same, getD-set-other}
+use lib.ListN.{length, getD, take, set, replicate, length-replicate, length-append, getD-replicate, List·getD-append}
+use lib.Seq.{getD-take, length-take-le, getD-append-add, ext-getD}
 use borrow.Author.Tests.{lt-ltb, le-ltb}
 use Rattle.definitions.specs.Ranges.{sizes}
 use Rattle.definitions.specs.Places.{first}
 use Rattle.theorems.proofs.Laws.Tests.{split}
 use Rattle.theorems.proofs.Search.Places.{Positive}
+use Rattle.ranges.proofs.Filled.{Filled, zeros, filled-none, filled-set}
 use Rattle.walk.specs.Digits.{digitsOf, sizesIn, Turning}
 use Rattle.walk.specs.Walked.{Starts}
 use Rattle.walk.specs.declared.odometer.Odometer.{Odometer}
@@ -24,22 +25,17 @@ size-variable tops N v h = ap (λ (b : Bool). cond b (getD tops v 0) 2) (lt-ltb 
 pub size-truth : (tops : List ℕ) (N v : ℕ) → N ≤ v → sizeOf tops N v ≡ 2
 size-truth tops N v h = ap (λ (b : Bool). cond b (getD tops v 0) 2) (le-ltb v N h)
 
+-- the size of variable v
+abbrev Size : List ℕ → ℕ → ℕ → ℕ → Type 0
+Size tops N v size = size ≡ sizeOf tops N v
+
 -- the sizes are filled up to v
 pub record Sized (tops : List ℕ) (N P : ℕ) (ss : List ℕ) (v : ℕ) : Type 0 where
   pub few : N ≤ 24
   pub fewer : P ≤ 16
   pub ranges : (u : ℕ) → u < N → (1 ≤ getD tops u 0) × (getD tops u 0 ≤ 24)
   pub inside : v ≤ N + P
-  pub long : length ss ≡ 40
-  pub filled : (j : ℕ) → j < v → getD ss j 0 ≡ sizeOf tops N j
-  pub empty : (j : ℕ) → v ≤ j → getD ss j 0 ≡ 0
-
-zero-at : (j : ℕ) → getD (replicate {A = ℕ} 40 0) j 0 ≡ 0
-zero-at j =
-    elim (split j 40) [
-      | inl h ↦ getD-replicate 40 j 0 0 h
-      | inr h ↦ List·getD-eq-default (replicate {A = ℕ} 40 0) 0 {n = j} (let l = length-replicate {A = ℕ} 40 0 in omega arith)
-    ]
+  pub filled : Filled (Size tops N) (λ _. 0) 40 v ss
 
 pub sized-none : (tops : List ℕ) (N P : ℕ) → N ≤ 24 → P ≤ 16 → ((u : ℕ) → u < N → (1 ≤ getD tops u 0) × (getD tops u 0 ≤ 24))
     → Sized tops N P (replicate 40 0) 0
@@ -49,15 +45,12 @@ sized-none tops N P n p r =
       fewer = p;
       ranges = r;
       inside = omega arith;
-      long = length-replicate {A = ℕ} 40 0;
-      filled = λ j h. absurd (omega arith);
-      empty = λ j h. zero-at j;
+      filled = filled-none (Size tops N) (λ _. 0) 40 (replicate 40 0) (length-replicate {A = ℕ} 40 0) (zeros 40);
     }
 
 module _ (tops : List ℕ) (N P : ℕ) (ss : List ℕ) (v : ℕ) (z : Sized tops N P ss v) where
   pub sized-more : v < N + P → (size : ℕ) → size ≡ sizeOf tops N v → Sized tops N P (set ss v size) (v + 1)
   sized-more h size e =
-      let l = z .long in
       let n = z .few in
       let p = z .fewer in
       record {
@@ -65,16 +58,7 @@ module _ (tops : List ℕ) (N P : ℕ) (ss : List ℕ) (v : ℕ) (z : Sized tops
         fewer = p;
         ranges = z .ranges;
         inside = omega arith;
-        long = length-set ss v size ∙ z .long;
-        filled =
-            λ j g.
-            elim (split j v) [
-              | inl b ↦ getD-set-other ss v j size 0 (λ q. omega arith) ∙ z .filled j b
-              | inr b ↦
-                  let q : j ≡ v = omega arith in
-                  ap (λ i. getD (set ss v size) i 0) q ∙ getD-set-same ss v size 0 (omega arith) ∙ e ∙ ap (sizeOf tops N) (sym q)
-            ];
-        empty = λ j g. getD-set-other ss v j size 0 (λ q. omega arith) ∙ z .empty j (omega arith);
+        filled = filled-set (Size tops N) (λ _. 0) 40 ss v (omega arith) (z .filled) size e;
       }
 
   module _ (full : N + P ≤ v) (tops-long : length tops ≡ 24) where
@@ -82,13 +66,13 @@ module _ (tops : List ℕ) (N P : ℕ) (ss : List ℕ) (v : ℕ) (z : Sized tops
     o = record { digits = replicate 40 0; sizes = ss; count = N + P }
 
     in-use : length (take (N + P) ss) ≡ N + P
-    in-use = let l = z .long in let n = z .few in let p = z .fewer in length-take-le (N + P) ss (omega arith)
+    in-use = let l = z .filled .long in let n = z .few in let p = z .fewer in length-take-le (N + P) ss (omega arith)
 
     at-variable : (j : ℕ) → j < N → getD ss j 0 ≡ getD tops j 0
-    at-variable j h = z .filled j (omega arith) ∙ size-variable tops N j h
+    at-variable j h = z .filled .done j (omega arith) ∙ size-variable tops N j h
 
     at-truth : (j : ℕ) → N ≤ j → j < N + P → getD ss j 0 ≡ 2
-    at-truth j h g = z .filled j (omega arith) ∙ size-truth tops N j h
+    at-truth j h g = z .filled .done j (omega arith) ∙ size-truth tops N j h
 
     size-low : (j : ℕ) → j < N + P → (1 ≤ getD ss j 0) × (getD ss j 0 ≤ 24)
     size-low j h =
@@ -101,7 +85,7 @@ module _ (tops : List ℕ) (N P : ℕ) (ss : List ℕ) (v : ℕ) (z : Sized tops
     small j =
         elim (split j (N + P)) [
           | inl b ↦ let r = size-low j b in omega arith
-          | inr b ↦ let e = z .empty j (let i = z .inside in omega arith) in omega arith
+          | inr b ↦ let e = z .filled .rest j (let i = z .inside in omega arith) in omega arith
         ]
 
     positive-of : (xs : List ℕ) → ((j : ℕ) → j < length xs → 1 ≤ getD xs j 0) → Positive xs
@@ -126,7 +110,7 @@ module _ (tops : List ℕ) (N P : ℕ) (ss : List ℕ) (v : ℕ) (z : Sized tops
     turning =
         record {
           digits-long = length-replicate {A = ℕ} 40 0;
-          sizes-long = z .long;
+          sizes-long = z .filled .long;
           few = let n = z .few in let p = z .fewer in omega arith;
           sizes-small = small;
           positive = positive-of (sizesIn o) used-low;
@@ -136,9 +120,9 @@ module _ (tops : List ℕ) (N P : ℕ) (ss : List ℕ) (v : ℕ) (z : Sized tops
               let l = in-use in
               let low = used-low j h in
               let d = getD-take (N + P) (replicate {A = ℕ} 40 0) j 0 (omega arith) in
-              let zero-here = zero-at j in
+              let zero-here = zeros 40 j in
               omega arith);
-          past = λ j h. zero-at j;
+          past = λ j h. zeros 40 j;
         }
 
     first-digits : digitsOf o ≡ first (sizesIn o)
@@ -147,7 +131,7 @@ module _ (tops : List ℕ) (N P : ℕ) (ss : List ℕ) (v : ℕ) (z : Sized tops
         (λ j h.
         let l = digits-length in
         let u = in-use in
-        getD-take (N + P) (replicate {A = ℕ} 40 0) j 0 (omega arith) ∙ zero-at j
+        getD-take (N + P) (replicate {A = ℕ} 40 0) j 0 (omega arith) ∙ zeros 40 j
         ∙ sym (getD-replicate (length (sizesIn o)) j 0 0 (omega arith)))
 
     tops-used : length (take N tops) ≡ N

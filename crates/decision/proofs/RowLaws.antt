@@ -1,16 +1,15 @@
 -- The row of a distinct application at a place, from the values that the code has at hand. Assumes nothing.
-use mathlib.Core.Path.{_≡_, refl, sym, ap, ap₂, _∙_, subst}
-use Prim.Native.Nat.{ℕ, zero, suc, _+_, _-_, _≤_, _<_}
+use mathlib.Core.Path.{_≡_, refl, sym, ap, _∙_, subst}
+use Prim.Native.Nat.{ℕ, zero, suc, _+_, _-_, _<_}
 use native.Mathlib.Omega.{arith}
 use native.Mathlib.Nat.{min-le-left, le-min}
 use mathlib.Core.Bool.{Bool, true, cond}
-use mathlib.Core.List.{List, [], _∷_, _++_, map, reverse, reverseAux, append-nil, append-assoc}
+use mathlib.Core.List.{List, [], _∷_, map, reverse, reverseAux}
 use mathlib.Core.Logic.{inl, inr}
 use mathlib.Core.Option.{none}
-use lib.ListN.{length, getD, take, drop, length-map, length-take, length-reverse, length-replicate, List·getD-eq-default}
-use lib.Seq.{getD-take, drop-drop}
+use lib.ListN.{length, getD, take, length-map, length-take, length-reverse, length-replicate, List·getD-eq-default}
+use lib.Seq.{getD-take}
 use lib.Dec.{ltb}
-use borrow.Rule.Slice.PartMut.{midOf, putMid}
 use borrow.Author.Tests.{lt-ltb, le-ltb}
 use Rattle.definitions.specs.Problem.Node.{Node, node}
 use Rattle.definitions.specs.Problem.Ops.{Sort, term, opOf, isApp, arity, sortsOf, countOf, fieldsOf, operandsOf}
@@ -28,7 +27,6 @@ use Rattle.theorems.proofs.Elimination.OfAssignment.{built, built-value}
 use Rattle.theorems.proofs.Elimination.WellLaid.{AppPlaced, AllPlaced, apps-placed, image-within}
 use Rattle.elimination.specs.State.{stateAt, noApp, appAt, LaidAt, three}
 use Rattle.elimination.specs.declared.laid.Laid.{Laid}
-use Rattle.elimination.proofs.Laying.{tail-whole, nothing-after}
 use Rattle.elimination.proofs.Operands.{map-at}
 use Rattle.elimination.proofs.Promising.{whole-state}
 use Rattle.elimination.proofs.Prefix.{nodes-length, apps-few, state-short}
@@ -194,8 +192,15 @@ module _ (s : List ℕ) (ok : Accepted s) (l : Laid) (laid : LaidAt s (nodeCount
       subst (λ m. m < length (F s ok .out)) (sym (laid .app-image i h ∙ placed .image-at))
       (image-within (symbolsOf s) (nodesOf s) (ok .nodes-right) (placed .at) (placed .at-node))
 
-  pub image-fits : getD (l .images) q 0 < 2632
-  image-fits = let a = image-in in let b = state-short s ok (nodeCount s) (omega arith) in let c = ap (λ (st : State). length (st .out)) (whole s ok) in omega arith
+  own-in : getD (l .owns) i 0 < length (F s ok .out)
+  own-in = subst (λ m. m < length (F s ok .out)) (sym (laid .app-own i h)) (placed .own-within)
+
+  -- its image and its own variable are nodes of the table
+  pub nodes-fit : (getD (l .images) q 0 < 2632) × (getD (l .owns) i 0 < 2632)
+  nodes-fit =
+      let short = state-short s ok (nodeCount s) (omega arith) in
+      let c = ap (λ (st : State). length (st .out)) (whole s ok) in
+      (omega (arith, image-in), omega (arith, own-in))
 
   pub rows-room : i < 40
   rows-room = let a = apps-few s ok (nodeCount s) (omega arith) in let c = laid .count-is in omega arith
@@ -247,13 +252,3 @@ module _ (s : List ℕ) (ok : Accepted s) (l : Laid) (laid : LaidAt s (nodeCount
         ∙ ap (λ m. rowOf5 (node (nodesOf s) q .sym) (argument 0) (argument 1) m value) (ez ∙ at 2)
         ∙ ap (λ m. rowOf5 (node (nodesOf s) q .sym) (argument 0) (argument 1) (argument 2) m) ev
         ∙ sym (row-is are)
-
--- a row put at the start of the tail stands at its place, and the rest is as it was
-pub row-placed : (before row ys : List ℕ) (at : ℕ) → at ≤ length before → ys ≡ row ++ drop 5 (midOf at (length before - at) before)
-    → putMid at (length before - at) before ys ≡ take at before ++ row ++ drop (at + 5) before
-row-placed before row ys at h y =
-    ap (λ (l : List ℕ). take at before ++ l)
-    (ap₂ {C = List ℕ} (λ x z. x ++ z)
-    (y ∙ ap (λ z. row ++ drop 5 z) (tail-whole before at h) ∙ ap (λ z. row ++ z) (drop-drop 5 at before)) (nothing-after before at h)
-    ∙ append-nil (row ++ drop (at + 5) before))
-    ∙ sym (append-assoc (take at before) row (drop (at + 5) before))

@@ -112,8 +112,9 @@ module _ {s table : List ℕ} {all : Laid} {ts : List ℕ} {functions predicates
         ∙ are
         ∙ ap (map byteOf) (take-all (all .nodes) vs (omega arith) ∙ e)
 
-    module _ (budget limit tried : ℕ) (least : limit ≡ min budget places) where
-      pub found-false : Ends good limit tried true → outcomeOf s budget ≡ falsified tried
+    -- what the search answers, by how the walk ends
+    module _ (budget limit tried : ℕ) (least : limit ≡ min budget places) (witness : List ℕ) where
+      found-false : Ends good limit tried true → outcomeOf s budget ≡ falsified tried
       unfolding outcomeOf
       found-false f =
           let n = L .places-are in
@@ -127,10 +128,16 @@ module _ {s table : List ℕ} {all : Laid} {ts : List ℕ} {functions predicates
           })
           (omega arith)
 
+      pub answers-falsified : Ends good limit tried true → (written : ℕ) (witness′ : List ℕ) → written ≡ length (witnessAt s tried)
+          → witness′ ≡ over (witnessAt s tried) witness → SearchIs budget s witness (Decision.Falsified tried places written) witness′
+      answers-falsified f written witness′ w x =
+          let e = found-false f in
+          record { answers = rw (e, L .places-are, w); witness-after = rw (e, x) }
+
       all-true : Ends good limit tried false → AllTrue (trueAt s) limit
       all-true f p a b = sym (good-same p) ∙ f .1 p a b
 
-      pub found-valid : Ends good limit tried false → places ≤ budget → (outcomeOf s budget ≡ valid tried)
+      found-valid : Ends good limit tried false → places ≤ budget → (outcomeOf s budget ≡ valid tried)
       unfolding outcomeOf
       found-valid f h =
           let n = L .places-are in
@@ -138,7 +145,10 @@ module _ {s table : List ℕ} {all : Laid} {ts : List ℕ} {functions predicates
           let q : limit ≡ product s = omega arith in
           valid-when (trueAt s) budget (product s) (omega arith) (subst (AllTrue (trueAt s)) q (all-true f)) ∙ ap valid (let e : product s ≡ tried = omega arith in e)
 
-      pub found-stopped : Ends good limit tried false → budget < places → (outcomeOf s budget ≡ stopped tried)
+      pub answers-valid : Ends good limit tried false → places ≤ budget → SearchIs budget s witness (Decision.Valid tried places) witness
+      answers-valid f h = let e = found-valid f h in record { answers = rw (e, L .places-are); witness-after = rw e }
+
+      found-stopped : Ends good limit tried false → budget < places → (outcomeOf s budget ≡ stopped tried)
       unfolding outcomeOf
       found-stopped f h =
           let n = L .places-are in
@@ -146,14 +156,5 @@ module _ {s table : List ℕ} {all : Laid} {ts : List ℕ} {functions predicates
           let q : limit ≡ budget = omega arith in
           stopped-when (trueAt s) budget (product s) (omega arith) (subst (AllTrue (trueAt s)) q (all-true f)) ∙ ap stopped (let e : budget ≡ tried = omega arith in e)
 
--- what the search answers, by its outcome
-module _ (budget : ℕ) (s witness : List ℕ) (tried places : ℕ) (n : places ≡ product s) where
-  pub answers-falsified : (written : ℕ) (witness′ : List ℕ) → outcomeOf s budget ≡ falsified tried → written ≡ length (witnessAt s tried)
-      → witness′ ≡ over (witnessAt s tried) witness → SearchIs budget s witness (Decision.Falsified tried places written) witness′
-  answers-falsified written witness′ e w x = record { answers = rw (e, n, w); witness-after = rw (e, x) }
-
-  pub answers-valid : outcomeOf s budget ≡ valid tried → SearchIs budget s witness (Decision.Valid tried places) witness
-  answers-valid e = record { answers = rw (e, n); witness-after = rw e }
-
-  pub answers-stopped : outcomeOf s budget ≡ stopped tried → SearchIs budget s witness (Decision.Stopped tried places) witness
-  answers-stopped e = record { answers = rw (e, n); witness-after = rw e }
+      pub answers-stopped : Ends good limit tried false → budget < places → SearchIs budget s witness (Decision.Stopped tried places) witness
+      answers-stopped f h = let e = found-stopped f h in record { answers = rw (e, L .places-are); witness-after = rw e }

@@ -1,18 +1,20 @@
 -- The witness grows by one row at a time, and is whole after the last. Assumes nothing.
-use mathlib.Core.Path.{_≡_, refl, sym, ap, ap₂, _∙_}
+use mathlib.Core.Path.{_≡_, sym, ap, ap₂, _∙_}
 use Prim.Native.Nat.{ℕ, _+_, _*_, _≤_, _<_}
 use native.Mathlib.Omega.{arith}
 use native.Mathlib.Numerals.{add-one}
 use mathlib.Core.List.{List, [], _∷_, _++_, reverse, append-nil, append-assoc}
-use lib.ListN.{length, getD, take, drop, length-append, length-map, length-reverse}
-use lib.Seq.{take-suc, take-at, drop-at, drop-drop, take-all, length-take-le}
+use lib.ListN.{length, getD, take, length-append, length-map, length-reverse}
+use lib.Seq.{take-suc, take-all, length-take-le}
 use Rattle.definitions.specs.Lists.{concatMap}
 use Rattle.definitions.specs.Problem.Check.{nodeCount, symbolsOf}
 use Rattle.definitions.specs.Elimination.{State, eliminated}
 use Rattle.definitions.specs.Places.{valuesAt}
 use Rattle.definitions.specs.Witness.{Row, rowBytes, witnessBytes, appRow, rowsAt, witnessAt}
+use Rattle.definitions.specs.Operations.Buffers.{over}
 use Rattle.theorems.proofs.Accepted.{Accepted}
 use Rattle.theorems.proofs.Witness.ReadBack.{witness-length}
+use Rattle.problem.proofs.Putting.{over-more, over-over}
 use Rattle.elimination.specs.State.{LaidAt}
 use Rattle.elimination.specs.declared.laid.Laid.{Laid}
 use Rattle.elimination.proofs.Laying.{concatMap-append}
@@ -37,12 +39,12 @@ pub record Writing (s vals before : List ℕ) (count : ℕ) (w : List ℕ) (i : 
   pub inside : i ≤ count
   pub long : length w ≡ length before
   pub so-far : (p : ℕ) → ValuesOf s p vals
-      → w ≡ headBytes count ++ concatMap rowBytes (take i (rowsAt s p)) ++ drop (6 + 5 * i) before
+      → w ≡ over (headBytes count ++ concatMap rowBytes (take i (rowsAt s p))) before
 
 module _ (s vals before : List ℕ) (count : ℕ) where
   pub writing-none : ((p : ℕ) → length (rowsAt s p) ≡ count) → (w : List ℕ) → length w ≡ length before
-      → w ≡ headBytes count ++ drop 6 before → Writing s vals before count w 0
-  writing-none m w l e = record { many = m; inside = omega arith; long = l; so-far = λ p are. e ∙ ap (λ (x : List ℕ). x ++ drop 6 before) (sym (append-nil (headBytes count))) }
+      → w ≡ over (headBytes count) before → Writing s vals before count w 0
+  writing-none m w l e = record { many = m; inside = omega arith; long = l; so-far = λ p are. e ∙ ap (λ x. over x before) (sym (append-nil (headBytes count))) }
 
   module _ (w : List ℕ) (i : ℕ) (z : Writing s vals before count w i) where
     first-rows : (p : ℕ) → length (headBytes count ++ concatMap rowBytes (take i (rowsAt s p))) ≡ 6 + 5 * i
@@ -73,19 +75,9 @@ module _ (s vals before : List ℕ) (count : ℕ) where
               let rows = concatMap rowBytes (take i (rowsAt s p)) in
               let head = headBytes count in
               let row = rowBytes (getD (rowsAt s p) i noRow) in
-              let rest = drop (6 + 5 * i) before in
-              let stands = z .so-far p are in
-              let n = first-rows p in
-              let low : take (6 + 5 * i) w ≡ head ++ rows = ap (take (6 + 5 * i)) stands ∙ take-at (head ++ rows) rest (6 + 5 * i) n in
-              let high : drop (6 + 5 * i + 5) w ≡ drop (6 + 5 * i + 5) before =
-              sym (drop-drop 5 (6 + 5 * i) w)
-              ∙ ap (drop 5) (ap (drop (6 + 5 * i)) stands ∙ drop-at (head ++ rows) rest (6 + 5 * i) n)
-              ∙ drop-drop 5 (6 + 5 * i) before
-              in
               r p are
-              ∙ ap₂ {C = List ℕ} (λ x y. x ++ row ++ y) low high
-              ∙ ap₂ {C = List ℕ} (λ x k. x ++ drop k before) (append-assoc head rows row ∙ ap (λ (x : List ℕ). head ++ x) (one-row p h))
-              (let e : 6 + 5 * i + 5 ≡ 6 + 5 * (i + 1) = omega arith in e);
+              ∙ over-more w (head ++ rows) before row (6 + 5 * i) (first-rows p) (z .so-far p are)
+              ∙ ap (λ x. over x before) (append-assoc head rows row ∙ ap (λ x. head ++ x) (one-row p h));
         }
 
     pub writing-done : count ≤ i → WitnessWritten s vals before (6 + 5 * count) w
@@ -96,29 +88,22 @@ module _ (s vals before : List ℕ) (count : ℕ) where
         let inside = z .inside in
         let l = witness-length rows in (
           z .so-far p are
-              ∙ ap₂ {C = List ℕ} (λ (k : ℕ) (rs : List Row). headBytes k ++ concatMap rowBytes rs ++ drop (6 + 5 * i) before) (sym m) (take-all i rows (omega arith))
-              ∙ ap (λ k. witnessBytes rows ++ drop k before) (let e : 6 + 5 * i ≡ length (witnessBytes rows) = omega arith in e),
+              ∙ ap₂ {C = List ℕ} (λ (k : ℕ) (rs : List Row). over (headBytes k ++ concatMap rowBytes rs) before) (sym m) (take-all i rows (omega arith)),
           omega arith,
         )
 
--- the head goes first: what stands past it stays
-module _ (count : ℕ) (before w₀ : List ℕ) (e : w₀ ≡ headBytes count ++ drop 6 before) where
-  same-past : (i : ℕ) → drop (6 + i) w₀ ≡ drop (6 + i) before
-  same-past i =
-      sym (drop-drop i 6 w₀) ∙ ap (drop i) (ap (drop 6) e ∙ drop-at (headBytes count) (drop 6 before) 6 refl) ∙ drop-drop i 6 before
-
-  pub head-stands : w₀ ≡ headBytes count ++ drop 6 w₀
-  head-stands = e ∙ ap (λ (x : List ℕ). headBytes count ++ x) (sym (same-past 0))
+-- the head goes first, and stands in what the rows are written over
+module _ (count : ℕ) (before w₀ : List ℕ) (e : w₀ ≡ over (headBytes count) before) where
+  pub head-stands : w₀ ≡ over (headBytes count) w₀
+  head-stands =
+      e ∙ sym (ap (over (headBytes count)) e ∙ over-over (headBytes count) (headBytes count) before (omega arith))
 
   pub witness-whole : (s vals w : List ℕ) (i : ℕ) → Writing s vals w₀ count w i → count ≤ i → WitnessWritten s vals before (6 + 5 * count) w
   unfolding witnessAt
   witness-whole s vals w i z h p are =
       let rows = rowsAt s p in
       let done = writing-done s vals w₀ count w i z h p are in
-      let past = same-past (5 * length rows) in
       let l = witness-length rows in (
-        done .0
-            ∙ ap (λ (x : List ℕ). witnessBytes rows ++ x)
-            (ap (λ k. drop k w₀) l ∙ past ∙ ap (λ k. drop k before) (sym l)),
+        done .0 ∙ ap (over (witnessBytes rows)) e ∙ over-over (witnessBytes rows) (headBytes count) before (omega arith),
         done .1,
       )

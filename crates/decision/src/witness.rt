@@ -1,11 +1,11 @@
 // The witness: the letters EQW, version 1, the row count, and a row of five bytes for each distinct application in node order.
 ghost use mathlib.Core.Path.{_≡_};
-ghost use mathlib.Core.List.{_++_};
 ghost use mathlib.Core.Bool.{cond};
 ghost use Prim.Native.Nat.{_+_, _*_, _<_, _≤_};
-ghost use lib.ListN.{length, getD, drop};
+ghost use lib.ListN.{length, getD};
 ghost use Rattle.definitions.specs.Problem.Check.{nodeCount};
 ghost use Rattle.definitions.specs.Witness.{rowBytes};
+ghost use Rattle.definitions.specs.Operations.Buffers.{over};
 ghost use Rattle.theorems.proofs.Accepted.{Accepted};
 ghost use Rattle.problem.specs.Shape.{Shaped};
 ghost use Rattle.elimination.specs.State.{LaidAt};
@@ -13,6 +13,7 @@ ghost use Rattle.decision.specs.Rows.{rowOf5, headBytes, RowWritten, Wit
 use elimination::copies::images_of;
 use elimination::laid::Laid;
 use problem::bytes::number;
+use problem::bytes::put;
 use problem::bytes::two_at;
 use problem::bytes::wide;
 use problem::nodes::arity_of;
@@ -23,26 +24,19 @@ const EQW: [u8; 3] = *b"EQW";
 // The mark, the version and the row count.
 fn put_head(witness: &mut [u8], rows: u8)
     requires { ⌜ 6 ≤ length (now witness) ⌝ }
-    ensures { λ r. ⌜ now (witness .exit) ≡ headBytes rows ++ drop 6 (now (witness .entry)) ⌝ }
+    ensures { λ r. ⌜ now (witness .exit) ≡ over (headBytes rows) (now (witness .entry)) ⌝ }
 {
-    witness[0] = EQW[0];
-    witness[1] = EQW[1];
-    witness[2] = EQW[2];
-    witness[3] = 1;
-    witness[4] = 0;
-    witness[5] = rows;
+    let bytes = [EQW[0], EQW[1], EQW[2], 1, 0, rows];
+    put(witness, &bytes);
 }
 
 // A row goes to the start of a lent tail.
 fn put_row(tail: &mut [u8], symbol: u8, x: u8, y: u8, z: u8, value: u8)
     requires { ⌜ 5 ≤ length (now tail) ⌝ }
-    ensures { λ r. ⌜ now (tail .exit) ≡ rowBytes (rowOf5 symbol x y z value) ++ drop 5 (now (tail .entry)) ⌝ }
+    ensures { λ r. ⌜ now (tail .exit) ≡ over (rowBytes (rowOf5 symbol x y z value)) (now (tail .entry)) ⌝ }
 {
-    tail[0] = symbol;
-    tail[1] = x;
-    tail[2] = y;
-    tail[3] = z;
-    tail[4] = value;
+    let bytes = [symbol, x, y, z, value];
+    put(tail, &bytes);
 }
 
 // The value of an argument is that of its image, and 0 where the field is unused.

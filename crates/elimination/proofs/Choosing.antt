@@ -8,24 +8,19 @@ use mathlib.Core.List.{List, []}
 use lib.ListN.{length, drop}
 use lib.Seq.{drop-cons, drop-length}
 use lib.Dec.{eqb}
-use borrow.Author.Tests.{eq-eqb, ne-eqb, eqb-true}
+use borrow.Author.Tests.{eqb-true}
 use Rattle.definitions.specs.Lists.{keep, keepIf, snoc}
 use Rattle.definitions.specs.Problem.Node.{Node, node, plain}
 use Rattle.definitions.specs.Problem.Check.{symbolsOf, nodesOf}
 use Rattle.definitions.specs.Elimination.{App, imagesOf, last, condition, choiceOp, choices, sameSymbol}
 use Rattle.theorems.proofs.Laws.Tests.{and-left, and-right}
+use Rattle.problem.specs.Stages.{oneSymbol}
 use Rattle.elimination.specs.Lays.{Lays}
-use Rattle.elimination.specs.State.{stateAt, noApp, appAt, oneSymbol}
+use Rattle.elimination.specs.State.{stateAt, noApp, appAt}
 use Rattle.elimination.proofs.Laying.{lays-on, lays-as}
 
--- two nodes are of one op and one symbol: the ops decide, then the symbols
+-- two nodes that are of one op and one symbol
 module _ (m n : Node) where
-  pub op-other : (m .op ≡ n .op → ⊥) → oneSymbol m n ≡ false
-  op-other o = simp (ne-eqb _ _ o)
-
-  pub symbol-decides : m .op ≡ n .op → oneSymbol m n ≡ eqb (m .sym) (n .sym)
-  symbol-decides o = simp (eq-eqb _ _ o)
-
   pub op-same : oneSymbol m n ≡ true → m .op ≡ n .op
   op-same e = eqb-true _ _ (and-left (eqb (m .op) (n .op)) (eqb (m .sym) (n .sym)) e)
 

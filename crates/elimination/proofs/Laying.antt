@@ -1,15 +1,15 @@
 -- Laying one node, and laying one thing after another. Assumes nothing.
-use mathlib.Core.Path.{_≡_, refl, sym, ap, ap₂, _∙_}
-use Prim.Native.Nat.{ℕ, _+_, _*_, _-_, _≤_}
+use mathlib.Core.Path.{_≡_, refl, sym, ap, _∙_}
+use Prim.Native.Nat.{ℕ, _+_, _*_, _-_}
 use native.Mathlib.Omega.{arith}
 use mathlib.Core.List.{List, [], _∷_, _++_, append-assoc, append-nil}
-use lib.ListN.{length, take, drop, length-append, length-drop}
-use lib.Seq.{take-all, take-at, drop-at, drop-drop, drop-length}
-use borrow.Rule.Slice.PartMut.{putMid, midOf, postOf}
+use lib.ListN.{length, length-append}
+use borrow.Rule.Slice.PartMut.{putMid, midOf}
 use Rattle.definitions.specs.Lists.{concatMap, snoc}
 use Rattle.definitions.specs.Problem.Node.{Node, nodeBytes, tableBytes}
 use Rattle.definitions.specs.Operations.Buffers.{over}
 use Rattle.theorems.proofs.Fits.{length-tableBytes}
+use Rattle.problem.proofs.Putting.{put-more}
 use Rattle.elimination.specs.Lays.{Lays}
 
 pub concatMap-append : {A B : Type 0} (f : A → List B) (xs ys : List A) → concatMap f (xs ++ ys) ≡ concatMap f xs ++ concatMap f ys
@@ -21,41 +21,13 @@ concatMap-append f (x ∷ xs) ys =
 pub table-snoc : (t : List Node) (n : Node) → tableBytes (snoc t n) ≡ tableBytes t ++ nodeBytes n
 table-snoc t n = concatMap-append nodeBytes t (n ∷ []) ∙ ap (λ l. tableBytes t ++ l) (append-nil (nodeBytes n))
 
--- the buffer with one node more in it
-over-snoc : (t : List Node) (n : Node) (w : List ℕ)
-    → tableBytes t ++ (nodeBytes n ++ drop 8 (drop (length (tableBytes t)) w)) ≡ over (tableBytes (snoc t n)) w
-over-snoc t n w =
-    let e = table-snoc t n in
-    let l : length (tableBytes (snoc t n)) ≡ length (tableBytes t) + 8 =
-    ap length e ∙ length-append (tableBytes t) (nodeBytes n)
-    in
-    sym (append-assoc (tableBytes t) (nodeBytes n) (drop 8 (drop (length (tableBytes t)) w)))
-    ∙ ap₂ {C = List ℕ} (λ x y. x ++ y) (sym e) (drop-drop 8 (length (tableBytes t)) w ∙ ap (λ k. drop k w) (sym l))
-
--- the tail that is lent is all that stands after the table
-module _ (work : List ℕ) (at : ℕ) (fits : at ≤ length work) where
-  pub tail-whole : midOf at (length work - at) work ≡ drop at work
-  tail-whole = take-all (length work - at) (drop at work) (omega (arith, length-drop at work))
-
-  pub nothing-after : postOf at (length work - at) work ≡ []
-  nothing-after = ap (λ k. drop k (drop at work)) (sym (length-drop at work)) ∙ drop-length (drop at work)
-
 -- a node put at the start of the tail is laid straight after the table
 pub laid-tail : (t : List Node) (n : Node) (work w ys : List ℕ) (count : ℕ) → length t ≡ count → work ≡ over (tableBytes t) w
-    → 8 * count + 8 ≤ length work → ys ≡ nodeBytes n ++ drop 8 (midOf (8 * count) (length work - 8 * count) work)
+    → ys ≡ over (nodeBytes n) (midOf (8 * count) (length work - 8 * count) work)
     → putMid (8 * count) (length work - 8 * count) work ys ≡ over (tableBytes (snoc t n)) w
-laid-tail t n work w ys count l e h y =
-    let at = 8 * count in
-    let b : length (tableBytes t) ≡ at = length-tableBytes t ∙ ap (λ k. 8 * k) l in
-    let rest = drop (length (tableBytes t)) w in
-    let low : take at work ≡ tableBytes t = ap (take at) e ∙ take-at (tableBytes t) rest at b in
-    let high : drop at work ≡ rest = ap (drop at) e ∙ drop-at (tableBytes t) rest at b in
-    ap₂ {C = List ℕ} (λ x z. x ++ z) low
-    (ap₂ {C = List ℕ} (λ x z. x ++ z)
-    (y ∙ ap (λ z. nodeBytes n ++ drop 8 z) (tail-whole work at (omega arith) ∙ high))
-    (nothing-after work at (omega arith))
-    ∙ append-nil (nodeBytes n ++ drop 8 rest))
-    ∙ over-snoc t n w
+laid-tail t n work w ys count l e y =
+    put-more work (tableBytes t) w (nodeBytes n) ys (8 * count) (length-tableBytes t ∙ ap (λ k. 8 * k) l) e y
+    ∙ ap (λ bytes. over bytes w) (sym (table-snoc t n))
 
 pub snoc-count : (t : List Node) (n : Node) (count : ℕ) → length t ≡ count → length (snoc t n) ≡ count + 1
 snoc-count t n count l = omega (arith, length-append t (n ∷ []))

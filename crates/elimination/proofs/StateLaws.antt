@@ -1,17 +1,16 @@
 -- What the code has at hand stays right as a node is copied, repeated or one distinct application more. Assumes nothing.
-use mathlib.Core.Path.{_≡_, refl, sym, ap, _∙_, subst}
+use mathlib.Core.Path.{_≡_, refl, sym, ap, ap₂, _∙_}
 use Prim.Native.Nat.{ℕ, suc, _+_, _-_, _<_}
 use native.Mathlib.Omega.{arith}
 use native.Mathlib.Numerals.{add-one}
 use mathlib.Core.List.{List, [], _∷_, _++_}
-use mathlib.Core.Logic.{inl, inr}
 use lib.ListN.{length, getD, take, set, length-set, length-append, length-replicate}
 use lib.Seq.{take-suc-set, getD-set-same, getD-set-other}
 use Rattle.definitions.specs.Lists.{snoc}
 use Rattle.definitions.specs.Problem.Node.{Node, node}
 use Rattle.definitions.specs.Problem.Check.{symbolsOf, nodesOf}
 use Rattle.definitions.specs.Elimination.{App, State, last, nodeOn, imagesOf, applied, addApp, repeat, copy}
-use Rattle.theorems.proofs.Laws.Tests.{split}
+use Rattle.theorems.proofs.Laws.Entries.{set-more}
 use Rattle.theorems.proofs.Elimination.Steps.{ofOp}
 use Rattle.elimination.specs.State.{stateAt, noApp, appAt, newApp, LaidAt, noneLaid, imageSet, appAdded}
 use Rattle.elimination.specs.declared.laid.Laid.{Laid}
@@ -99,11 +98,12 @@ module _ (s : List ℕ) (k : ℕ) (l : Laid) (before : LaidAt s k l) (small : k 
     laid-app e f p =
         let apps : stateAt s (k + 1) .apps ≡ this ∷ older = ap (λ (G : State). G .apps) e in
         let count = before .count-is in
-        let known : (d : App) (j : ℕ) → j < l .count → getD (stateAt s (k + 1) .apps) (length (stateAt s (k + 1) .apps) - suc j) d ≡ getD older (length older - suc j) d =
-        λ d j h. ap (λ (xs : List App). getD xs (length xs - suc j) d) apps ∙ earlier-kept older this d j (omega arith)
+        let apps-room : l .count < length (l .apps) = (let c = before .apps-long in omega arith) in
+        let known : (j : ℕ) → j < l .count → appAt s (k + 1) j ≡ appAt s k j =
+        λ j h. ap (λ (xs : List App). getD xs (length xs - suc j) noApp) apps ∙ earlier-kept older this noApp j (omega arith)
         in
-        let newest : (d : App) (j : ℕ) → j ≡ l .count → getD (stateAt s (k + 1) .apps) (length (stateAt s (k + 1) .apps) - suc j) d ≡ this =
-        λ d j h. ap (λ (xs : List App). getD xs (length xs - suc j) d) apps ∙ ap (λ m. getD (this ∷ older) (length (this ∷ older) - suc m) d) (let q : j ≡ length older = omega arith in q) ∙ latest-first older this d
+        let newest : appAt s (k + 1) (l .count) ≡ this =
+        ap₂ (λ (xs : List App) (j : ℕ). getD xs (length xs - suc j) noApp) apps count ∙ latest-first older this noApp
         in
         record {
           images-long = length-set (l .images) k (at - 1) ∙ before .images-long;
@@ -118,50 +118,18 @@ module _ (s : List ℕ) (k : ℕ) (l : Laid) (before : LaidAt s k l) (small : k 
           predicates-are = p ∙ ap (λ xs. length (ofOp 6 xs)) (sym apps);
           nodes-are = reached ∙ sym (ap (λ (G : State). length (G .out)) e);
           app-before =
-              λ j h.
-              elim (split j (l .count)) [
-                | inl b ↦
-                    subst (λ m. m < k + 1) (sym (getD-set-other (l .apps) (l .count) j k 0 (λ q. omega arith)))
-                    (let c = before .app-before j b in omega arith)
-                | inr b ↦
-                    subst (λ m. m < k + 1)
-                    (sym (ap (λ i. getD (set (l .apps) (l .count) k) i 0) (let q : j ≡ l .count = omega arith in q) ∙ getD-set-same (l .apps) (l .count) k 0 (let c = before .apps-long in omega arith)))
-                    (omega arith)
-              ];
+              set-more (λ _ q. q < k + 1) (l .apps) (l .count) k apps-room (λ j b. let c = before .app-before j b in omega arith) (omega arith);
           app-of =
-              λ j h.
-              elim (split j (l .count)) [
-                | inl b ↦
-                    ap (node (nodesOf s)) (getD-set-other (l .apps) (l .count) j k 0 (λ q. omega arith)) ∙ before .app-of j b
-                    ∙ ap (λ (app : App). app .of) (sym (known noApp j b))
-                | inr b ↦
-                    ap (node (nodesOf s))
-                    (ap (λ i. getD (set (l .apps) (l .count) k) i 0) (let q : j ≡ l .count = omega arith in q)
-                    ∙ getD-set-same (l .apps) (l .count) k 0 (let c = before .apps-long in omega arith))
-                    ∙ sym is-node ∙ ap (λ (app : App). app .of) (sym (newest noApp j (omega arith)))
-              ];
+              set-more (λ j q. node (nodesOf s) q ≡ appAt s (k + 1) j .of) (l .apps) (l .count) k apps-room
+              (λ j b. before .app-of j b ∙ ap (λ (app : App). app .of) (sym (known j b)))
+              (sym is-node ∙ ap (λ (app : App). app .of) (sym newest));
           app-own =
-              λ j h.
-              elim (split j (l .count)) [
-                | inl b ↦
-                    getD-set-other (l .owns) (l .count) j (l .nodes) 0 (λ q. omega arith) ∙ before .app-own j b
-                    ∙ ap (λ (app : App). app .own) (sym (known noApp j b))
-                | inr b ↦
-                    ap (λ i. getD (set (l .owns) (l .count) (l .nodes)) i 0) (let q : j ≡ l .count = omega arith in q)
-                    ∙ getD-set-same (l .owns) (l .count) (l .nodes) 0 (let c = before .owns-long in omega arith)
-                    ∙ before .nodes-are ∙ ap (λ (app : App). app .own) (sym (newest noApp j (omega arith)))
-              ];
+              set-more (λ j own. own ≡ appAt s (k + 1) j .own) (l .owns) (l .count) (l .nodes) (let c = before .owns-long in omega arith)
+              (λ j b. before .app-own j b ∙ ap (λ (app : App). app .own) (sym (known j b)))
+              (before .nodes-are ∙ ap (λ (app : App). app .own) (sym newest));
           app-image =
-              λ j h.
-              elim (split j (l .count)) [
-                | inl b ↦
-                    ap (λ q. getD (set (l .images) k (at - 1)) q 0) (getD-set-other (l .apps) (l .count) j k 0 (λ q. omega arith))
-                    ∙ image-kept (at - 1) j b ∙ ap (λ (app : App). app .image) (sym (known noApp j b))
-                | inr b ↦
-                    ap (λ q. getD (set (l .images) k (at - 1)) q 0)
-                    (ap (λ i. getD (set (l .apps) (l .count) k) i 0) (let q : j ≡ l .count = omega arith in q)
-                    ∙ getD-set-same (l .apps) (l .count) k 0 (let c = before .apps-long in omega arith))
-                    ∙ getD-set-same (l .images) k (at - 1) 0 (let c = before .images-long in omega arith)
-                    ∙ ap (λ m. m - 1) reached ∙ ap (λ (app : App). app .image) (sym (newest noApp j (omega arith)))
-              ];
+              set-more (λ j q. getD (set (l .images) k (at - 1)) q 0 ≡ appAt s (k + 1) j .image) (l .apps) (l .count) k apps-room
+              (λ j b. image-kept (at - 1) j b ∙ ap (λ (app : App). app .image) (sym (known j b)))
+              (getD-set-same (l .images) k (at - 1) 0 (let c = before .images-long in omega arith)
+              ∙ ap (λ m. m - 1) reached ∙ ap (λ (app : App). app .image) (sym newest));
         }

@@ -1,10 +1,8 @@
 -- What the code has at hand after k nodes, against the definition's elimination of the first k nodes. Assumes nothing.
 use mathlib.Core.Path.{_≡_}
 use Prim.Native.Nat.{ℕ, suc, _+_, _-_, _<_}
-use mathlib.Core.Bool.{Bool, _&&_}
 use mathlib.Core.List.{List, [], _∷_}
 use lib.ListN.{length, getD, take, set, replicate}
-use lib.Dec.{eqb}
 use Rattle.definitions.specs.Problem.Node.{Node, node, noNode, tableBytes}
 use Rattle.definitions.specs.Problem.Check.{symbolsOf, nodesOf, nodeCount}
 use Rattle.definitions.specs.Elimination.{App, State, begin, last, nextVar, applied, steps}
@@ -91,7 +89,3 @@ appAdded l k own functions predicates =
 -- the first three of a list, with 0 for those that it lacks
 abbrev pub three : List ℕ → List ℕ
 three xs = getD xs 0 0 ∷ getD xs 1 0 ∷ getD xs 2 0 ∷ []
-
--- two nodes are of the same op and the same symbol
-abbrev pub oneSymbol : Node → Node → Bool
-oneSymbol m n = eqb (m .op) (n .op) && eqb (m .sym) (n .sym)

@@ -13,7 +13,7 @@ ghost use Rattle.theorems.proofs.Accepted.{Accepted};
 ghost use Rattle.problem.specs.Shape.{Shaped};
 ghost use Rattle.problem.specs.Stages.{firstSame};
 ghost use Rattle.elimination.specs.Lays.{Lays};
-ghost use Rattle.elimination.specs.State.{stateAt, LaidAt, StepLays, oneSymbol};
+ghost use Rattle.elimination.specs.State.{stateAt, LaidAt, StepLays};
 use crate::conditions::lay_choice;
 use crate::copies::images_of;
 use crate::laid::Laid;
@@ -22,19 +22,7 @@ use problem::bytes::number;
 use problem::bytes::wide;
 use problem::nodes::arity_of;
 use problem::nodes::node_at;
-
-// Nodes q and k are of the same op and the same symbol.
-fn same_symbol(problem: &[u8], symbols: usize, nodes: usize, q: usize, k: usize) -> bool
-    requires { ⌜ Shaped (now problem) symbols nodes × (q < nodes) × (k < nodes) ⌝ }
-    ensures { λ r. ⌜ r ≡ oneSymbol (node (nodesOf (now (problem .entry))) q) (node (nodesOf (now (problem .entry))) k) ⌝ }
-{
-    let there = node_at(symbols, q);
-    let here = node_at(symbols, k);
-    if problem[there] != problem[here] {
-        return false;
-    }
-    problem[there + 1] == problem[here + 1]
-}
+use problem::repeats::same_symbol;
 
 // The choices for node k, after its own variable node: the applications are looked at from the latest on.
 fn lay_choices(

@@ -4,11 +4,19 @@ ghost use lib.ListN.{length, take};
 ghost use Rattle.definitions.specs.Lists.{snoc};
 ghost use Rattle.definitions.specs.Problem.Node.{plain};
 ghost use Rattle.definitions.specs.Elimination.{last, condition};
-ghost use Rattle.elimination.specs.Lays.{Lays, Small};
+ghost use Rattle.elimination.specs.Lays.{Lays, Small, oneMore};
 use crate::put::lay;
 
-// The condition that the arguments xs and ys are equal in pairs: an equation for the first; for each further one an equation, then
-// an "and" of what stood before with it.
+// One argument more: its equation, and then the "and" of what stood before with it.
+fn lay_further(work: &mut [u8], count: usize, x: usize, y: usize)
+    requires { ⌜ (1 ≤ count) × (count + 2 ≤ 2632) × (x < 2632) × (y < 2632) × (21056 ≤ length (now work)) ⌝ }
+    ensures { λ r. ⌜ Lays (now (work .entry)) (now (work .exit)) count (count + 2) (oneMore x y) ⌝ }
+{
+    lay(work, count, 2, 0, x, y, 0);
+    lay(work, count + 1, 4, 0, count - 1, count, 0);
+}
+
+// The condition that the arguments xs and ys are equal in pairs: an equation for the first, and then the further ones.
 fn lay_condition(
     work: &mut [u8],
     count: usize,
@@ -23,13 +31,11 @@ fn lay_condition(
     if arity == 1 {
         return count + 1;
     }
-    lay(work, count + 1, 2, 0, xs[1], ys[1], 0);
-    lay(work, count + 2, 4, 0, count, count + 1, 0);
+    lay_further(work, count + 1, xs[1], ys[1]);
     if arity == 2 {
         return count + 3;
     }
-    lay(work, count + 3, 2, 0, xs[2], ys[2], 0);
-    lay(work, count + 4, 4, 0, count + 2, count + 3, 0);
+    lay_further(work, count + 3, xs[2], ys[2]);
     count + 5
 }
 

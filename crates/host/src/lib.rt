@@ -1,8 +1,7 @@
 // The call from C: `eqp_decide` decides, and lays the answer down in 32 bytes, low byte first.
 ghost use mathlib.Core.Path.{_≡_};
-ghost use mathlib.Core.List.{_++_};
 ghost use Prim.Native.Nat.{_≤_};
-ghost use lib.ListN.{length, drop};
+ghost use lib.ListN.{length};
 ghost use Rattle.definitions.specs.Bytes.{bytesOf};
 ghost use Rattle.definitions.specs.Operations.Host.{answerBytes, thirtyTwo};
 ghost use Rattle.definitions.specs.Operations.Buffers.{over};
@@ -13,6 +12,7 @@ use decision::decide;
 use definitions::Decision;
 use definitions::number_of;
 use definitions::place_of;
+use problem::bytes::put;
 
 // The six numbers of the answer.
 struct Reply {
@@ -93,22 +93,25 @@ fn put_reply(answer: &mut [u8], reply: Reply)
 // The first eight bytes: verdict, refusal number, four zeros and the witness's length.
 fn put_head(answer: &mut [u8], verdict: u8, refusal: u8, written: usize)
     requires { ⌜ 8 ≤ length (now answer) ⌝ }
-    ensures { λ r. ⌜ now (answer .exit) ≡ headBytes verdict refusal written ++ drop 8 (now (answer .entry)) ⌝ }
+    ensures { λ r. ⌜ now (answer .exit) ≡ over (headBytes verdict refusal written) (now (answer .entry)) ⌝ }
 {
-    answer[0] = verdict;
-    answer[1] = refusal;
-    answer[2] = 0;
-    answer[3] = 0;
-    answer[4] = 0;
-    answer[5] = 0;
-    answer[6] = (written % 256) as u8;
-    answer[7] = (written / 256 % 256) as u8;
+    let bytes = [
+        verdict,
+        refusal,
+        0,
+        0,
+        0,
+        0,
+        (written % 256) as u8,
+        (written / 256 % 256) as u8,
+    ];
+    put(answer, &bytes);
 }
 
 // A number goes to the start of a lent tail.
 fn put_eight(tail: &mut [u8], n: u64)
     requires { ⌜ 8 ≤ length (now tail) ⌝ }
-    ensures { λ r. ⌜ now (tail .exit) ≡ bytesOf 8 n ++ drop 8 (now (tail .entry)) ⌝ }
+    ensures { λ r. ⌜ now (tail .exit) ≡ over (bytesOf 8 n) (now (tail .entry)) ⌝ }
 {
     let n1 = n / 256;
     let n2 = n1 / 256;
@@ -117,12 +120,15 @@ fn put_eight(tail: &mut [u8], n: u64)
     let n5 = n4 / 256;
     let n6 = n5 / 256;
     let n7 = n6 / 256;
-    tail[0] = (n % 256) as u8;
-    tail[1] = (n1 % 256) as u8;
-    tail[2] = (n2 % 256) as u8;
-    tail[3] = (n3 % 256) as u8;
-    tail[4] = (n4 % 256) as u8;
-    tail[5] = (n5 % 256) as u8;
-    tail[6] = (n6 % 256) as u8;
-    tail[7] = (n7 % 256) as u8;
+    let bytes = [
+        (n % 256) as u8,
+        (n1 % 256) as u8,
+        (n2 % 256) as u8,
+        (n3 % 256) as u8,
+        (n4 % 256) as u8,
+        (n5 % 256) as u8,
+        (n6 % 256) as u8,
+        (n7 % 256) as u8,
+    ];
+    put(tail, &bytes);
 }

@@ -1,21 +1,22 @@
 -- What is written after what was written: the pieces of a line join. Assumes nothing.
-use mathlib.Core.Path.{_≡_, ap, _∙_, subst}
+use mathlib.Core.Path.{_≡_, refl, ap, _∙_, subst}
 use Prim.Native.Nat.{ℕ, _+_, _≤_}
 use native.Mathlib.Omega.{arith}
 use mathlib.Core.List.{List, _++_, append-assoc}
-use lib.ListN.{length, take, length-append, length-take}
-use lib.Seq.{paste, take-paste, take-all}
+use lib.ListN.{length, take, drop, length-append, length-take}
+use lib.Seq.{take-at, length-take-le}
 use Rattle.lines.specs.Wrote.{Wrote}
 
--- a copy of all the bytes writes them
-pub wrote-copy : (d : List ℕ) (at : ℕ) (s : List ℕ) (i : ℕ) (after : List ℕ)
-    → at + length s ≤ length d → i ≤ length s → length s ≤ i → after ≡ paste d at s i → Wrote d at s after (at + i)
-wrote-copy d at s i after h a b e =
+-- bytes put at a place are written there
+pub wrote-put : {text bytes after : List ℕ} {at : ℕ} → at ≤ length text
+    → after ≡ take at text ++ bytes ++ drop (at + length bytes) text → Wrote text at bytes after (at + length bytes)
+wrote-put {text} {bytes} {at = at} h e =
+    let low = length-take-le at text h in
     record {
       stands =
-          ap (take (at + i)) e ∙ take-paste d at s i (omega arith) a
-          ∙ ap (λ (x : List ℕ). take at d ++ x) (take-all i s b);
-      ends = omega arith;
+          ap (take (at + length bytes)) e
+          ∙ take-at (take at text ++ bytes) (drop (at + length bytes) text) (at + length bytes) (omega (arith, length-append (take at text) bytes));
+      ends = refl;
     }
 
 pub wrote-more : {l₀ l₁ l₂ a b : List ℕ} {at₀ at₁ at₂ : ℕ}

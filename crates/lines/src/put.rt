@@ -4,17 +4,15 @@ ghost use Prim.Native.Nat.{_+_, _≤_};
 ghost use lib.ListN.{length, drop};
 ghost use Rattle.definitions.specs.Night.{word, decimal};
 ghost use Rattle.lines.specs.Wrote.{Wrote};
+use problem::bytes;
 
+// Bytes go to a place of the line; the place after them.
 pub fn put(text: &mut [u8], at: usize, bytes: &[u8]) -> usize
     requires { ⌜ at + length (now bytes) ≤ length (now text) ⌝ }
     ensures { λ r. ⌜ Wrote (now (text .entry)) at (now (bytes .entry)) (now (text .exit)) r ⌝ }
 {
-    let mut i = 0;
-    while i < bytes.len() {
-        text[at + i] = bytes[i];
-        i += 1;
-    }
-    at + i
+    bytes::put(&mut text[at..], bytes);
+    at + bytes.len()
 }
 
 // A space and the decimal digits of a number, laid from the end of the buffer, the low digit first. A 64-bit number has at

@@ -1,3 +1,4 @@
 pub mod Stages
 pub mod NodeLaws
 pub mod Scans
+pub mod Putting

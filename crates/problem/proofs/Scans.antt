@@ -16,7 +16,7 @@ use Rattle.definitions.specs.Problem.Node.{Node, node, noNode, same}
 use Rattle.definitions.specs.Problem.Check.{distinct}
 use Rattle.theorems.proofs.Laws.Tests.{none≢some}
 use Rattle.theorems.proofs.Laws.Scans.{failingFrom, fails-here, fails-later, fails-nowhere}
-use Rattle.problem.specs.Stages.{firstSame}
+use Rattle.problem.specs.Stages.{oneSymbol, firstSame}
 
 -- some member passes a test if and only if the scan for the first such member finds one
 module _ {A : Type 0} (f : A → Bool) where
@@ -40,22 +40,25 @@ module _ {A : Type 0} (f : A → Bool) where
       go false rec e′ = rec e′
 
 -- two nodes are compared field by field: the first that differs, or the last, decides
-pub op-differs : (m n : Node) → (m .op ≡ n .op → ⊥) → same m n ≡ false
-op-differs m n x = simp (ne-eqb _ _ x)
+module _ (m n : Node) where
+  pub op-differs : (m .op ≡ n .op → ⊥) → oneSymbol m n ≡ false
+  op-differs x = simp (ne-eqb _ _ x)
 
-module _ (m n : Node) (p : m .op ≡ n .op) where
-  pub symbol-differs : (m .sym ≡ n .sym → ⊥) → same m n ≡ false
-  symbol-differs x = simp (eq-eqb _ _ p, ne-eqb _ _ x)
+  pub symbol-decides : m .op ≡ n .op → oneSymbol m n ≡ eqb (m .sym) (n .sym)
+  symbol-decides p = simp (eq-eqb _ _ p)
 
-  module _ (q : m .sym ≡ n .sym) where
+  pub head-differs : oneSymbol m n ≡ false → same m n ≡ false
+  head-differs e = simp e
+
+  module _ (e : oneSymbol m n ≡ true) where
     pub a-differs : (m .a ≡ n .a → ⊥) → same m n ≡ false
-    a-differs x = simp (eq-eqb _ _ p, eq-eqb _ _ q, ne-eqb _ _ x)
+    a-differs x = simp (e, ne-eqb _ _ x)
 
     pub b-differs : m .a ≡ n .a → (m .b ≡ n .b → ⊥) → same m n ≡ false
-    b-differs r x = simp (eq-eqb _ _ p, eq-eqb _ _ q, eq-eqb _ _ r, ne-eqb _ _ x)
+    b-differs r x = simp (e, eq-eqb _ _ r, ne-eqb _ _ x)
 
     pub c-decides : m .a ≡ n .a → m .b ≡ n .b → same m n ≡ eqb (m .c) (n .c)
-    c-decides r u = simp (eq-eqb _ _ p, eq-eqb _ _ q, eq-eqb _ _ r, eq-eqb _ _ u)
+    c-decides r u = simp (e, eq-eqb _ _ r, eq-eqb _ _ u)
 
 -- the first node before node k, from node j on, that is the same as node k
 abbrev unlike : List Node → ℕ → Node → Bool

@@ -2,9 +2,10 @@
 use mathlib.Core.Path.{_≡_}
 use Prim.Native.Nat.{ℕ}
 use mathlib.Core.List.{List}
-use mathlib.Core.Bool.{not}
+use mathlib.Core.Bool.{Bool, not, _&&_}
 use mathlib.Core.Option.{Option, none, some}
 use lib.ListN.{take}
+use lib.Dec.{eqb}
 use Rattle.definitions.specs.Lists.{firstFailing}
 use Rattle.definitions.specs.Problem.Node.{Node, same}
 use Rattle.definitions.specs.Problem.Check.{checkConditions}
@@ -33,6 +34,10 @@ Checks s r = checkedRead r ≡ checkAnswer s
 abbrev pub HeadRead : List ℕ → Head → Type 0
 HeadRead s (Head.Fine symbols nodes) = Shaped s symbols nodes × Passed 5 s
 HeadRead s (Head.Bad r) = refused (refusalRead r) ≡ checkAnswer s
+
+-- two nodes are of the same op and the same symbol
+abbrev pub oneSymbol : Node → Node → Bool
+oneSymbol m n = eqb (m .op) (n .op) && eqb (m .sym) (n .sym)
 
 -- the number of the first of some nodes that is the same as a node
 abbrev pub firstSame : Node → List Node → Option ℕ

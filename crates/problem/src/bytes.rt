@@ -1,8 +1,9 @@
-// Bytes and two-byte numbers of a problem.
+// Bytes and two-byte numbers of a problem, and bytes put into a lent buffer.
 ghost use mathlib.Core.Path.{_≡_};
-ghost use Prim.Native.Nat.{_+_, _<_};
+ghost use Prim.Native.Nat.{_+_, _<_, _≤_};
 ghost use lib.ListN.{length};
 ghost use Rattle.definitions.specs.Bytes.{twoAt};
+ghost use Rattle.definitions.specs.Operations.Buffers.{over};
 
 // What a search finds: a number, or nothing.
 pub enum Found {
@@ -30,4 +31,16 @@ pub fn two_at(s: &[u8], i: usize) -> usize
     let low = wide(s[i]);
     let high = wide(s[i + 1]);
     low + 256 * high
+}
+
+// Bytes go to the start of a lent tail, and the rest stays as it was.
+pub fn put(tail: &mut [u8], bytes: &[u8])
+    requires { ⌜ length (now bytes) ≤ length (now tail) ⌝ }
+    ensures { λ r. ⌜ now (tail .exit) ≡ over (now (bytes .entry)) (now (tail .entry)) ⌝ }
+{
+    let mut i = 0;
+    while i < bytes.len() {
+        tail[i] = bytes[i];
+        i += 1;
+    }
 }

@@ -6,24 +6,34 @@ ghost use lib.ListN.{length, take};
 ghost use Rattle.definitions.specs.Problem.Node.{node, same};
 ghost use Rattle.definitions.specs.Problem.Check.{nodesOf};
 ghost use Rattle.problem.specs.Shape.{Shaped};
-ghost use Rattle.problem.specs.Stages.{foundOf, firstSame};
+ghost use Rattle.problem.specs.Stages.{foundOf, oneSymbol, firstSame};
 use crate::bytes::Found;
 use crate::bytes::two_at;
 use crate::nodes::node_at;
 
-// Two nodes have the same op, symbol and operand numbers.
-pub fn same_nodes(s: &[u8], symbols: usize, nodes: usize, j: usize, k: usize) -> bool
+// Two nodes have the same op and symbol.
+pub fn same_symbol(s: &[u8], symbols: usize, nodes: usize, j: usize, k: usize) -> bool
     requires { ⌜ Shaped (now s) symbols nodes × (j < nodes) × (k < nodes) ⌝ }
-    ensures { λ r. ⌜ r ≡ same (node (nodesOf (now (s .entry))) j) (node (nodesOf (now (s .entry))) k) ⌝ }
+    ensures { λ r. ⌜ r ≡ oneSymbol (node (nodesOf (now (s .entry))) j) (node (nodesOf (now (s .entry))) k) ⌝ }
 {
     let a = node_at(symbols, j);
     let b = node_at(symbols, k);
     if s[a] != s[b] {
         return false;
     }
-    if s[a + 1] != s[b + 1] {
+    s[a + 1] == s[b + 1]
+}
+
+// Two nodes have the same op, symbol and operand numbers.
+pub fn same_nodes(s: &[u8], symbols: usize, nodes: usize, j: usize, k: usize) -> bool
+    requires { ⌜ Shaped (now s) symbols nodes × (j < nodes) × (k < nodes) ⌝ }
+    ensures { λ r. ⌜ r ≡ same (node (nodesOf (now (s .entry))) j) (node (nodesOf (now (s .entry))) k) ⌝ }
+{
+    if !same_symbol(s, symbols, nodes, j, k) {
         return false;
     }
+    let a = node_at(symbols, j);
+    let b = node_at(symbols, k);
     if two_at(s, a + 2) != two_at(s, b + 2) {
         return false;
     }

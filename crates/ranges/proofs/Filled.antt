@@ -5,7 +5,8 @@ use native.Mathlib.Omega.{arith}
 use mathlib.Core.List.{List}
 use borrow.Author.Count.{below-more}
 use lib.ListN.{length, getD, set, replicate, length-set}
-use lib.Seq.{getD-set-same, getD-set-other}
+use lib.Seq.{getD-set-other}
+use Rattle.theorems.proofs.Laws.Entries.{set-more}
 
 -- the numbers before k are done, and those from k on are as they were at the start
 pub record Filled (Done : ℕ → ℕ → Type 0) (start : ℕ → ℕ) (n k : ℕ) (xs : List ℕ) : Type 0 where
@@ -27,10 +28,7 @@ module _ (Done : ℕ → ℕ → Type 0) (start : ℕ → ℕ) (n : ℕ) (xs : L
     filled-set x d =
         record {
           long = length-set xs k x ∙ f .long;
-          done =
-              below-more (λ i. Done i (getD (set xs k x) i 0)) k
-              (λ i l. subst (Done i) (sym (getD-set-other xs k i x 0 (λ e. omega arith))) (f .done i l))
-              (subst (Done k) (sym (getD-set-same xs k x 0 (let e = f .long in omega arith))) d);
+          done = set-more Done xs k x (let e = f .long in omega arith) (f .done) d;
           rest = λ i l. getD-set-other xs k i x 0 (λ e. omega arith) ∙ f .rest i (omega arith);
         }
 

@@ -1,5 +1,5 @@
 -- The odometer on its way to the successor: the digits before i have gone back to 0, the others stand. Assumes nothing.
-use mathlib.Core.Path.{_≡_, refl, sym, ap, _∙_, subst}
+use mathlib.Core.Path.{_≡_, refl, sym, _∙_, subst}
 use Prim.Native.Nat.{ℕ, suc, _+_, _≤_, _<_}
 use native.Mathlib.Omega.{arith}
 use mathlib.Core.Bool.{true, false, false≢true}
@@ -7,6 +7,7 @@ use mathlib.Core.List.{List}
 use mathlib.Core.Logic.{inl, inr}
 use lib.ListN.{length, getD, take, set, length-set}
 use lib.Seq.{getD-take, length-take-le, getD-set-same, getD-set-other}
+use Rattle.theorems.proofs.Laws.Entries.{set-more}
 use Rattle.theorems.proofs.Laws.Tests.{split}
 use Rattle.walk.specs.Digits.{digitsOf, sizesIn, Turning, NextIs}
 use Rattle.walk.specs.declared.odometer.Odometer.{Odometer}
@@ -185,13 +186,7 @@ module _ (o : Odometer) (i : ℕ) (ds : List ℕ) (c : Carrying o i ds) where
         turning = t;
         inside = omega arith;
         long = length-set ds i 0 ∙ c .long;
-        zeros =
-            λ j l.
-            elim (split j i) [
-              | inl b ↦ getD-set-other ds i j 0 0 (λ q. omega arith) ∙ c .zeros j b
-              | inr b ↦
-                  ap (λ m. getD (set ds i 0) m 0) (let q : j ≡ i = omega arith in q) ∙ getD-set-same ds i 0 0 (omega arith)
-            ];
+        zeros = set-more (λ _ d. d ≡ 0) ds i 0 (omega arith) (c .zeros) refl;
         kept = λ j l. getD-set-other ds i j 0 0 (λ q. omega arith) ∙ c .kept j (omega arith);
         tops =
             λ j l.

@@ -10,6 +10,7 @@ use lib.Seq.{getD-set-same, getD-set-other}
 use lib.Dec.{eqb}
 use borrow.Author.Tests.{eqb-true, eqb-false}
 use Rattle.theorems.proofs.Laws.Tests.{split}
+use Rattle.theorems.proofs.Laws.Entries.{set-more}
 use Rattle.walk.specs.Cells.{cell, chosen, Earlier, Ready, Picked, LanesLaid, Solved, LaneCopied}
 
 -- a choice by a truth value
@@ -83,15 +84,7 @@ module _ (cells : List ℕ) (left right same apart : ℕ) where
       record {
         inside = omega arith;
         long = length-set lanes n x ∙ p .long;
-        lane =
-            λ l b.
-            elim (split l n) [
-              | inl u ↦ getD-set-other lanes n l x 0 (λ q. omega arith) ∙ p .lane l u
-              | inr u ↦
-                  let q : n ≡ l = omega arith in
-                  let long = p .long in
-                  subst (λ m. getD (set lanes n x) m 0 ≡ takes m) q (getD-set-same lanes n x 0 (omega arith) ∙ e)
-            ];
+        lane = set-more (λ l v. v ≡ takes l) lanes n x (let long = p .long in omega arith) (p .lane) e;
       }
 
   pub picks-all : (lanes : List ℕ) → (n : ℕ) → Picking cells left right same apart lanes n → 16 ≤ n
@@ -139,17 +132,7 @@ module _ (before : List ℕ) (at : ℕ) (lanes : List ℕ) where
 pub copies-more : (cells : List ℕ) → (lane k : ℕ) → (vals : List ℕ) → LaneCopied cells lane k vals → k < length vals
     → LaneCopied cells lane (k + 1) (set vals k (cell cells (42 + k) lane))
 copies-more cells lane k vals p h =
-    let x = cell cells (42 + k) lane in
-    record {
-      copied =
-          λ j b.
-          elim (split j k) [
-            | inl u ↦ getD-set-other vals k j x 0 (λ q. omega arith) ∙ p .copied j u
-            | inr u ↦
-                let q : k ≡ j = omega arith in
-                subst (λ m. getD (set vals k x) m 0 ≡ cell cells (42 + m) lane) q (getD-set-same vals k x 0 h)
-          ];
-    }
+    record { copied = set-more (λ j v. v ≡ cell cells (42 + j) lane) vals k (cell cells (42 + k) lane) h (p .copied) refl }
 
 -- what a branch of node j takes in lane l, from where its four cells stand
 abbrev branchTakes : List ℕ → List ℕ → ℕ → ℕ → ℕ

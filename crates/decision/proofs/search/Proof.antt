@@ -2,15 +2,17 @@
 -- Assumes nothing.
 use borrow.Author.Needs.{needs}
 use mathlib.Core.Path.{_≡_, _∙_, subst}
-use Prim.Native.Nat.{ℕ}
+use Prim.Native.Nat.{ℕ, min}
 use mathlib.Core.Bool.{Bool, true, false}
-use lib.ListN.{length-replicate}
+use lib.ListN.{take, length-replicate}
 use Rattle.definitions.specs.Elimination.{rootOf, eliminated}
+use Rattle.definitions.specs.Ranges.{sizes}
 use Rattle.walk.specs.Digits.{sizesIn}
 use Rattle.walk.specs.Walked.{rootTrue, Ends}
+use Rattle.walk.specs.declared.odometer.Odometer.{Odometer}
 use Rattle.decision.specs.Searched.{Laying}
 use Rattle.decision.proofs.SearchLaws.{stands, root-there, root-in, tops-long, tops-low, few-variables, few-truths, values-left}
-use Rattle.decision.proofs.SearchLaws.{found-false, found-valid, found-stopped, answers-falsified, answers-valid, answers-stopped}
+use Rattle.decision.proofs.SearchLaws.{answers-falsified, answers-valid, answers-stopped}
 use Rattle.decision.proofs.search.Statement.{statement}
 use Rattle.decision.proofs.search.Tie as tie
 
@@ -72,47 +74,40 @@ module _ (c : tie.After-walk) where
   abbrev l : Laying (start read .args .problem .now) (start read .args .table .now) (start read .args .all) (start read .args .tops) (start read .args .functions) (start read .args .predicates) (start read .args .product)
   l = start read .pre .0
 
-  abbrev Ended : Bool → Type 0
-  Ended = Ends (rootTrue (start read .args .table .now) (start read .args .all .nodes) (start read .args .functions) (root read) (sizesIn (c .before .before .odometer .result))) (c .before .before .before .least .result) (c .walk .result .tried)
+  abbrev o : Odometer
+  o = c .before .before .odometer .result
 
-  ends : Ended (c .walk .result .falsified)
-  ends = c .walk .ensures .ends
+  abbrev sizes-same : sizesIn o ≡ sizes (take (start read .args .functions) (start read .args .tops)) (start read .args .predicates)
+  sizes-same = c .before .before .odometer .ensures .1
+
+  abbrev limit : ℕ
+  limit = c .before .before .before .least .result
+
+  abbrev limit-is : limit ≡ min (start read .args .budget) (start read .args .product)
+  limit-is = c .before .before .before .least .ensures
+
+  ended : (b : Bool) → c .walk .result .falsified ≡ b
+      → Ends (rootTrue (start read .args .table .now) (start read .args .all .nodes) (start read .args .functions) (root read) (sizesIn o)) limit (c .walk .result .tried) b
+  ended b e = subst (Ends _ _ _) e (c .walk .ensures .ends)
 
 returns : tie.Need-returns
 returns c =
     let w = c .before .before .before .before .before .before .before in
-    let args = start (read w) .args in
-    let o = w .before .before .odometer in
     let false-there : w .walk .result .falsified ≡ true = c .before .before .before .before .before .if1 .taken in
     let tried = w .walk .result .tried in
-    let vals = values-left (l w) (o .result) (o .ensures .1) (root (read w)) (root-is (read w)) tried _ (w .walk .ensures .values-are false-there) in
+    let vals = values-left (l w) (o w) (sizes-same w) _ (root-is (read w)) tried _ (w .walk .ensures .values-are false-there) in
     let written = c .before .before .write-witness .ensures tried vals in
-    answers-falsified (args .budget) (args .problem .now) (args .witness .now) tried (args .product) (l w .places-are) _ _
-    (found-false (l w) (o .result) (o .ensures .1) (root (read w)) (root-is (read w)) (args .budget) (w .before .before .before .least .result) tried (w .before .before .before .least .ensures)
-    (subst (Ended w) false-there (ends w)))
-    (written .1) (written .0)
+    answers-falsified (l w) (o w) (sizes-same w) _ (root-is (read w)) _ _ tried (limit-is w) _ (ended w true false-there) _ _ (written .1) (written .0)
 
 returns-2 : tie.Need-returns-2
 returns-2 c =
     let w = c .before .before .before in
-    let args = start (read w) .args in
-    let o = w .before .before .odometer in
-    let none-there : w .walk .result .falsified ≡ false = c .before .if1 .left in
-    let tried = w .walk .result .tried in
-    answers-valid (args .budget) (args .problem .now) (args .witness .now) tried (args .product) (l w .places-are)
-    (found-valid (l w) (o .result) (o .ensures .1) (root (read w)) (root-is (read w)) (args .budget) (w .before .before .before .least .result) tried (w .before .before .before .least .ensures)
-    (subst (Ended w) none-there (ends w)) (c .if2 .taken))
+    answers-valid (l w) (o w) (sizes-same w) _ (root-is (read w)) _ _ _ (limit-is w) _ (ended w false (c .before .if1 .left)) (c .if2 .taken)
 
 returns-3 : tie.Need-returns-3
 returns-3 c =
     let w = c .before .before .before in
-    let args = start (read w) .args in
-    let o = w .before .before .odometer in
-    let none-there : w .walk .result .falsified ≡ false = c .before .if1 .left in
-    let tried = w .walk .result .tried in
-    answers-stopped (args .budget) (args .problem .now) (args .witness .now) tried (args .product) (l w .places-are)
-    (found-stopped (l w) (o .result) (o .ensures .1) (root (read w)) (root-is (read w)) (args .budget) (w .before .before .before .least .result) tried (w .before .before .before .least .ensures)
-    (subst (Ended w) none-there (ends w)) (c .if2 .left))
+    answers-stopped (l w) (o w) (sizes-same w) _ (root-is (read w)) _ _ _ (limit-is w) _ (ended w false (c .before .if1 .left)) (c .if2 .left)
 
 pub search-spec : {M : Type 1} → statement M
 search-spec =

@@ -1,11 +1,10 @@
 -- `put_reply` lays the 32 bytes down eight at a time, and leaves the rest as it was. Assumes nothing.
 use borrow.Author.Needs.{needs}
-use native.Mathlib.Omega.{arith}
 use mathlib.Core.Path.{refl}
 use mathlib.Core.List.{_++_}
 use Rattle.definitions.specs.Bytes.{bytesOf}
 use Rattle.host.specs.Replies.{headBytes}
-use Rattle.host.proofs.Laying.{eight-more}
+use Rattle.problem.proofs.Putting.{put-more}
 use Rattle.host.proofs.put_reply.Statement.{statement}
 use Rattle.host.proofs.put_reply.Tie as tie
 
@@ -59,14 +58,13 @@ returns c =
     let head = first .before .before .before .before in
     let start = head .before .before .before in
     let r = start .args .reply in
-    let long = start .pre in
     let place = bytesOf 8 (r .place) in
     let tried = bytesOf 8 (r .tried) in
     let bytes = headBytes (r .verdict) (r .refusal) (r .written) in
     let old = start .args .answer .now in
-    let one = eight-more bytes place old _ _ 8 refl refl (omega arith) (head .put-head .ensures) (first .put-eight .ensures) in
-    let two = eight-more (bytes ++ place) tried old _ _ 16 refl refl (omega arith) one (second .put-eight2 .ensures) in
-    eight-more (bytes ++ place ++ tried) (bytesOf 8 (r .product)) old _ _ 24 refl refl (omega arith) two (third .put-eight3 .ensures)
+    let one = put-more _ bytes old place _ 8 refl (head .put-head .ensures) (first .put-eight .ensures) in
+    let two = put-more _ (bytes ++ place) old tried _ 16 refl one (second .put-eight2 .ensures) in
+    put-more _ (bytes ++ place ++ tried) old (bytesOf 8 (r .product)) _ 24 refl two (third .put-eight3 .ensures)
 
 pub put-reply-spec : {M : Type 1} → statement M
 put-reply-spec =

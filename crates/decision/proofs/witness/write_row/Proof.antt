@@ -8,13 +8,13 @@ use lib.ListN.{length, getD, take, drop, length-drop}
 use Rattle.definitions.specs.Problem.Node.{Node, node}
 use Rattle.definitions.specs.Problem.Check.{nodeCount, symbolsOf, nodesOf}
 use Rattle.problem.proofs.NodeLaws.{node-stands}
+use Rattle.problem.proofs.Putting.{tail-whole, put-there}
 use Rattle.definitions.specs.Problem.Ops.{arity}
 use Rattle.definitions.specs.Elimination.{imagesOf}
 use Rattle.definitions.specs.Witness.{Row, rowBytes}
 use Rattle.elimination.specs.State.{stateAt, three}
 use Rattle.elimination.specs.declared.laid.Laid.{Laid}
-use Rattle.elimination.proofs.Laying.{tail-whole}
-use Rattle.decision.proofs.RowLaws.{image-fits, rows-room, row-read, row-placed}
+use Rattle.decision.proofs.RowLaws.{nodes-fit, rows-room, row-read}
 use Rattle.decision.proofs.witness.write_row.Statement.{statement}
 use Rattle.decision.proofs.witness.write_row.Tie as tie
 
@@ -33,8 +33,9 @@ module _ (c : tie.Start) where
   few : c .args .i < 40
   few = rows-room s (c .pre .0) all (c .pre .2) (c .args .i) (c .pre .3)
 
-  image-low : getD (all .images) app 0 < 2632
-  image-low = image-fits s (c .pre .0) all (c .pre .2) (c .args .i) (c .pre .3)
+  -- whichever of the application's nodes is read, its number is a node's of the table
+  low : (getD (all .images) app 0 < 2632) × (getD (all .owns) (c .args .i) 0 < 2632)
+  low = nodes-fit s (c .pre .0) all (c .pre .2) (c .args .i) (c .pre .3)
 
 array-read-wide : tie.Need-array-read-wide
 array-read-wide c = let f = few (c .before .before .before .before .before) in omega arith
@@ -131,8 +132,10 @@ value-at-requires c κs =
     let few-nodes = st .pre .1 .few-nodes in
     let inside = q-node got in
     let images-long = st .pre .2 .images-long in
+    let owns-long = st .pre .2 .owns-long in
     let values-long = st .pre .4 in
-    let low = image-low st in
+    let room = few st in
+    let fit = low st in
     let is = ap (λ n. getD (all st .images) n 0) (q-is got) in
     (omega arith, omega arith)
 
@@ -206,7 +209,7 @@ returns c = λ p are.
     let old = st .args .witness .now in
     let i = st .args .i in
     let values = st .args .values .now in
-    row-placed old _ (c .before .before .put-row .last .0) (6 + 5 * i) (omega arith) (c .before .before .put-row .ensures)
+    put-there old (6 + 5 * i) (omega arith) _ (c .before .before .put-row .last .0) (c .before .before .put-row .ensures)
     ∙ ap (λ (r : Row). take (6 + 5 * i) old ++ rowBytes r ++ drop (6 + 5 * i + 5) old)
     (row-read (s st) (st .pre .0) (all st) (st .pre .2) i (st .pre .3) p values (given .images-of .result) (operands-read given)
     _

@@ -3,9 +3,10 @@ use borrow.Author.Needs.{needs}
 use native.Mathlib.Omega.{arith}
 use mathlib.Core.Path.{_≡_, refl, ap, _∙_}
 use Prim.Native.Nat.{ℕ, _-_, _%_, _≤_}
-use mathlib.Core.List.{List, _++_}
-use lib.ListN.{length, drop}
+use mathlib.Core.List.{List}
+use lib.ListN.{length}
 use Rattle.definitions.specs.Problem.Check.{nodeCount}
+use Rattle.definitions.specs.Operations.Buffers.{over}
 use Rattle.elimination.proofs.Prefix.{apps-few}
 use Rattle.elimination.proofs.Promising.{shaped}
 use Rattle.decision.specs.Rows.{headBytes}
@@ -50,10 +51,10 @@ module _ (c : tie.After-put-head Inv-loop μ-loop) where
   abbrev w₀ : List ℕ
   w₀ = c .put-head .last .0
 
-  head-put : w₀ ≡ headBytes count ++ drop 6 (start .args .witness .now)
+  head-put : w₀ ≡ over (headBytes count) (start .args .witness .now)
   head-put =
       c .put-head .ensures
-      ∙ ap (λ k. headBytes k ++ drop 6 (start .args .witness .now)) (let f = few start in let e : count % 256 ≡ count = omega arith in e)
+      ∙ ap (λ k. over (headBytes k) (start .args .witness .now)) (let f = few start in let e : count % 256 ≡ count = omega arith in e)
 
   same-room : length w₀ ≡ length (start .args .witness .now)
   same-room = c .put-head .kept .0

@@ -13,8 +13,9 @@ use Rattle.definitions.specs.Problem.Node.{Node, node, nodeAt}
 use Rattle.definitions.specs.Problem.Ops.{opOf, isApp, arity}
 use Rattle.definitions.specs.Problem.Check.{nodeCount, symbolsOf, nodesOf}
 use Rattle.definitions.specs.Elimination.{App, choiceOp, sameSymbol}
+use Rattle.problem.specs.Stages.{oneSymbol}
 use Rattle.problem.proofs.NodeLaws.{node-stands}
-use Rattle.elimination.specs.State.{stateAt, appAt, oneSymbol}
+use Rattle.elimination.specs.State.{stateAt, appAt}
 use Rattle.elimination.proofs.Laying.{lays-as}
 use Rattle.elimination.proofs.Prefix.{apps-few, room}
 use Rattle.elimination.proofs.Stepping.{next-app}

@@ -1,6 +1,5 @@
 -- `lay` lends the tail after the nodes already laid, and the node put there stands straight after them. Assumes nothing.
 use borrow.Author.Needs.{needs}
-use native.Mathlib.Omega.{arith}
 use Rattle.elimination.proofs.Laying.{laid-tail, snoc-count}
 use Rattle.elimination.proofs.put.lay.Statement.{statement}
 use Rattle.elimination.proofs.put.lay.Tie as tie
@@ -26,7 +25,7 @@ same-length c = search needs
 returns : tie.Need-returns
 returns c =
     record {
-      lays = λ t w l e. laid-tail t _ _ w _ _ l e (omega arith) (c .before .before .put-node .ensures);
+      lays = λ t w l e. laid-tail t _ _ w _ _ l e (c .before .before .put-node .ensures);
       counts = λ t l. snoc-count t _ _ l;
     }
 

@@ -2,12 +2,12 @@
 use mathlib.Core.Path.{_≡_, sym, ap₂, _∙_}
 use Rattle.definitions.specs.Problem.Node.{Node, node, nodeAt}
 use Rattle.definitions.specs.Problem.Check.{nodesOf}
 use Rattle.problem.proofs.NodeLaws.{node-stands}
-use Rattle.elimination.specs.State.{oneSymbol}
-use Rattle.elimination.proofs.Choosing.{op-other, symbol-decides}
+use Rattle.problem.specs.Stages.{oneSymbol}
+use Rattle.problem.proofs.Scans.{op-differs, symbol-decides}
 use borrow.Author.Needs.{needs}
-use Rattle.elimination.proofs.applications.same_symbol.Statement.{statement}
-use Rattle.elimination.proofs.applications.same_symbol.Tie as tie
+use Rattle.problem.proofs.repeats.same_symbol.Statement.{statement}
+use Rattle.problem.proofs.repeats.same_symbol.Tie as tie
 
 node-at-requires : tie.Need-node-at-requires
 node-at-requires c κs = search needs
@@ -24,13 +24,13 @@ shared-slice-read-if1-2 c = search needs
 -- the two nodes, read where they stand
 module _ (c : tie.After-node-at2) where
   abbrev there : Node
-  there = nodeAt (c .before .before .before .args .problem .now) (c .before .node-at .result)
+  there = nodeAt (c .before .before .before .args .s .now) (c .before .node-at .result)
 
   abbrev here : Node
-  here = nodeAt (c .before .before .before .args .problem .now) (c .node-at2 .result)
+  here = nodeAt (c .before .before .before .args .s .now) (c .node-at2 .result)
 
   nodes-read : let a = c .before .before .before .args in
-      oneSymbol (node (nodesOf (a .problem .now)) (a .q)) (node (nodesOf (a .problem .now)) (a .k)) ≡ oneSymbol there here
+      oneSymbol (node (nodesOf (a .s .now)) (a .j)) (node (nodesOf (a .s .now)) (a .k)) ≡ oneSymbol there here
   nodes-read =
       let p = c .before .before .before .pre in
       ap₂ oneSymbol (node-stands (p .0) _ _ (c .before .node-at .ensures) (p .1))
@@ -39,7 +39,7 @@ module _ (c : tie.After-node-at2) where
 returns : tie.Need-returns
 returns c =
     let read = c .before .before .before in
-    sym (nodes-read read ∙ op-other (there read) (here read) (c .if1 .taken))
+    sym (nodes-read read ∙ op-differs (there read) (here read) (c .if1 .taken))
 
 add-result : tie.Need-add-result
 add-result c = search needs
