@@ -1,6 +1,6 @@
--- The top: what decide's promise means, the three demands of document 01 in one place. It reads without the lemmas. The promise is
--- kept for any bytes, buffer lengths and budget; that decide returns and does nothing undefined is what the language proves of
--- every function.
+-- The top: what decide's promise means, the user's three demands in one place (docs/THEOREMS.md has them in words). It reads without
+-- the lemmas. The promise is kept for any bytes, buffer lengths and budget; that decide returns and does nothing undefined is what
+-- the language proves of every function.
 --
 -- s are the problem's bytes, work and witness the buffers as lent, work′ and witness′ as left, r the answer.
 -- `Meets s work room x`: the input meets the condition of refusal x. `Refuses`: it is the first that is met, in the order tried.
