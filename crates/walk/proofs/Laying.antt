@@ -1,12 +1,12 @@
 -- Sixteen lanes: what a sum takes for a choice, and lanes picked, laid and copied one by one. Assumes nothing.
-use mathlib.Core.Path.{_≡_, refl, sym, ap, _∙_, subst}
+use mathlib.Core.Path.{_≡_, refl, sym, ap, ap₂, _∙_, subst}
 use Prim.Native.Nat.{ℕ, _+_, _*_, _-_, _≤_, _<_}
 use native.Mathlib.Omega.{arith}
 use mathlib.Core.Bool.{Bool, true, false}
-use mathlib.Core.List.{List}
+use mathlib.Core.List.{List, _++_}
 use mathlib.Core.Logic.{_⊎_, inl, inr}
-use lib.ListN.{length, getD, set, length-set}
-use lib.Seq.{getD-set-same, getD-set-other}
+use lib.ListN.{length, getD, set, take, drop, length-set, length-append, List·getD-append}
+use lib.Seq.{getD-take, getD-drop, getD-append-add, length-take-le}
 use lib.Dec.{eqb}
 use borrow.Author.Tests.{eqb-true, eqb-false}
 use Rattle.theorems.proofs.Laws.Tests.{split}
@@ -91,42 +91,48 @@ module _ (cells : List ℕ) (left right same apart : ℕ) where
       → Picked cells left right same apart lanes
   picks-all lanes n p h = record { lane = λ l b. p .lane l (omega arith) }
 
--- the first n of sixteen lanes laid at a place of the cells
-pub record Laying (before : List ℕ) (at : ℕ) (lanes after : List ℕ) (n : ℕ) : Type 0 where
-  pub reach : n ≤ 16
-  pub long : length after ≡ length before
-  pub inside : (l : ℕ) → l < n → getD after (at + l) 0 ≡ getD lanes l 0
-  pub outside : (i : ℕ) → (i < at) ⊎ (at + 16 ≤ i) → getD after i 0 ≡ getD before i 0
+-- sixteen lanes that stand between what stood before them and what stood after them are laid
+module _ (before : List ℕ) (at : ℕ) (lanes after : List ℕ) (many : length lanes ≡ 16) (fits : at ≤ length before)
+    (e : after ≡ take at before ++ lanes ++ drop (at + length lanes) before) where
+  low : length (take at before) ≡ at
+  low = length-take-le at before fits
 
-module _ (before : List ℕ) (at : ℕ) (lanes : List ℕ) where
-  pub lays-none : Laying before at lanes before 0
-  lays-none = record { reach = omega arith; long = refl; inside = λ l h. absurd (omega arith); outside = λ i h. refl }
+  both : length (take at before ++ lanes) ≡ at + 16
+  both = let l = low in omega (arith, length-append (take at before) lanes)
 
-  apart-from : (i n : ℕ) → n < 16 → (i < at) ⊎ (at + 16 ≤ i) → i ≡ at + n → ⊥
-  apart-from i n h (inl b) e = omega arith
-  apart-from i n h (inr b) e = omega arith
+  within : (i : ℕ) → i < at + 16 → getD after i 0 ≡ getD (take at before ++ lanes) i 0
+  within i h =
+      let b = both in
+      ap (λ (x : List ℕ). getD x i 0) e
+      ∙ List·getD-append (take at before ++ lanes) (drop (at + length lanes) before) 0 i (omega arith)
 
-  pub lays-more : (after : List ℕ) → (n : ℕ) → Laying before at lanes after n → n < 16 → at + 16 ≤ length before
-      → Laying before at lanes (set after (at + n) (getD lanes n 0)) (n + 1)
-  lays-more after n p h room =
-      let x = getD lanes n 0 in
-      let long = p .long in
+  past : (i : ℕ) → at + 16 ≤ i → getD after i 0 ≡ getD before i 0
+  past i h =
+      let b = both in
+      let rest = drop (at + length lanes) before in
+      let k = i - (at + 16) in
+      ap₂ (λ (x : List ℕ) (j : ℕ). getD x j 0) e (let q : i ≡ length (take at before ++ lanes) + k = omega arith in q)
+      ∙ getD-append-add (take at before ++ lanes) rest k 0
+      ∙ getD-drop (at + length lanes) before k 0
+      ∙ ap (λ j. getD before j 0) (let q : at + length lanes + k ≡ i = omega arith in q)
+
+  pub lanes-laid : LanesLaid before at lanes after
+  lanes-laid =
+      let l = low in
       record {
-        reach = omega arith;
-        long = length-set after (at + n) x ∙ long;
         inside =
-            λ l b.
-            elim (split l n) [
-              | inl u ↦ getD-set-other after (at + n) (at + l) x 0 (λ q. omega arith) ∙ p .inside l u
-              | inr u ↦
-                  let q : n ≡ l = omega arith in
-                  subst (λ m. getD (set after (at + n) x) (at + m) 0 ≡ getD lanes m 0) q (getD-set-same after (at + n) x 0 (omega arith))
+            λ j h.
+            within (at + j) (omega arith)
+            ∙ ap (λ i. getD (take at before ++ lanes) i 0) (let q : at + j ≡ length (take at before) + j = omega arith in q)
+            ∙ getD-append-add (take at before) lanes j 0;
+        outside =
+            λ i h.
+            elim h [
+              | inl b ↦
+                  within i (omega arith) ∙ List·getD-append (take at before) lanes 0 i (omega arith) ∙ getD-take at before i 0 b
+              | inr b ↦ past i b
             ];
-        outside = λ i b. getD-set-other after (at + n) i x 0 (apart-from i n h b) ∙ p .outside i b;
       }
-
-  pub lays-all : (after : List ℕ) → (n : ℕ) → Laying before at lanes after n → 16 ≤ n → LanesLaid before at lanes after
-  lays-all after n p h = record { inside = λ l b. p .inside l (omega arith); outside = p .outside }
 
 -- one node's value more
 pub copies-more : (cells : List ℕ) → (lane k : ℕ) → (vals : List ℕ) → LaneCopied cells lane k vals → k < length vals

@@ -5,6 +5,7 @@ ghost use mathlib.Core.Path.{_≡_};
 ghost use lib.ListN.{length};
 ghost use Rattle.walk.specs.Cells.{chosen, Ordered, Picked, LanesLaid, Solved, FirstLane, LaneCopied};
 use problem::bytes::number;
+use problem::bytes::put;
 
 // 1 for equal values, else 0.
 fn equal(x: u8, y: u8) -> u8
@@ -48,11 +49,7 @@ pub fn put_lanes(cells: &mut [u8], at: usize, lanes: [u8; 16])
     requires { ⌜ at + 16 ≤ length (now cells) ⌝ }
     ensures { λ r. ⌜ LanesLaid (now (cells .entry)) at lanes (now (cells .exit)) ⌝ }
 {
-    let mut l = 0;
-    while l < 16 {
-        cells[at + l] = lanes[l];
-        l += 1;
-    }
+    put(&mut cells[at..], &lanes);
 }
 
 // The values of all nodes, from those of the digits.

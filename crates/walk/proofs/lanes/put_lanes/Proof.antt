@@ -1,56 +1,36 @@
--- `put_lanes` puts sixteen lanes at a place: the loop keeps that the first l of them stand there and that nothing outside has changed.
--- Assumes nothing.
+-- `put_lanes` lends the cells from the place on, and the sixteen lanes put there are laid. Assumes nothing.
+use borrow.Author.Needs.{needs}
 use native.Mathlib.Omega.{arith}
-use Prim.Native.Nat.{_-_}
-use Rattle.walk.proofs.Laying.{Laying, lays-none, lays-more, lays-all}
+use Rattle.problem.proofs.Putting.{put-there}
+use Rattle.walk.proofs.Laying.{lanes-laid}
 use Rattle.walk.proofs.lanes.put_lanes.Statement.{statement}
 use Rattle.walk.proofs.lanes.put_lanes.Tie as tie
 
-abbrev Inv-loop : tie.InvT-loop
-Inv-loop cells₀ at lanes l₀ cells l = Laying cells₀ at lanes cells l
+sub-put : tie.Need-sub-put
+sub-put c = search needs
 
-abbrev μ-loop : tie.MeasureT-loop
-μ-loop cells₀ at lanes l₀ cells l = 16 - l
+part-put-start : tie.Need-part-put-start
+part-put-start c = search needs
 
-loop-holds : tie.Need-loop-holds Inv-loop μ-loop
-loop-holds c = lays-none _ _ _
+part-put-end : tie.Need-part-put-end
+part-put-end c = search needs
 
-array-read-cells : tie.Need-array-read-cells Inv-loop μ-loop
-array-read-cells c = omega arith
+slice-aggregate-put : tie.Need-slice-aggregate-put
+slice-aggregate-put c = search needs
 
-add-cells : tie.Need-add-cells Inv-loop μ-loop
-add-cells c = let p = c .before .before .pre in omega arith
+put-requires : tie.Need-put-requires
+put-requires c κs = search needs
 
-slice-write-cells : tie.Need-slice-write-cells Inv-loop μ-loop
-slice-write-cells c = let long = c .before .loop .inv .long in let p = c .before .before .pre in omega arith
+same-length : tie.Need-same-length
+same-length c = search needs
 
-add-l : tie.Need-add-l Inv-loop μ-loop
-add-l c = omega arith
-
-loop-less : tie.Need-loop-less Inv-loop μ-loop
-loop-less c = omega arith
-
-loop-again : tie.Need-loop-again Inv-loop μ-loop
-loop-again c = lays-more _ _ _ _ _ (c .before .loop .inv) (omega arith) (c .before .before .pre)
-
-same-length : tie.Need-same-length Inv-loop μ-loop
-same-length c = c .before .loop .inv .long
-
-returns : tie.Need-returns Inv-loop μ-loop
-returns c = lays-all _ _ _ _ _ (c .before .loop .inv) (c .loop-test .left)
+returns : tie.Need-returns
+returns c =
+    let s = c .before .before .before .before .before .before .args in
+    lanes-laid (s .cells .now) (s .at) (s .t3) _ (search needs) (omega arith)
+    (put-there (s .cells .now) (s .at) (omega arith) (s .t3) _ (c .before .before .put .ensures))
 
 pub put-lanes-spec : {M : Type 1} → statement M
 put-lanes-spec =
     tie.close
-    (tie.spec
-    Inv-loop
-    μ-loop
-    loop-holds
-    array-read-cells
-    add-cells
-    slice-write-cells
-    add-l
-    loop-less
-    loop-again
-    same-length
-    returns)
+    (tie.spec sub-put part-put-start part-put-end slice-aggregate-put put-requires same-length returns)
