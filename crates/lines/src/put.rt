@@ -6,7 +6,7 @@ ghost use Rattle.definitions.specs.Night.{word, decimal};
 ghost use Rattle.lines.specs.Wrote.{Wrote};
 use problem::bytes;
 
-// Bytes go to a place of the line; the place after them.
+// Bytes go into the line from an offset on; the offset after them.
 pub fn put(text: &mut [u8], at: usize, bytes: &[u8]) -> usize
     requires { ⌜ at + length (now bytes) ≤ length (now text) ⌝ }
     ensures { λ r. ⌜ Wrote (now (text .entry)) at (now (bytes .entry)) (now (text .exit)) r ⌝ }
