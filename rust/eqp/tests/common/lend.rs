@@ -88,6 +88,17 @@ impl Buffers {
         }
         self.0[0].slice().copy_from_slice(problem);
     }
+
+    fn lend(&mut self, budget: u64, library: Raw) -> u32 {
+        let [problem, work, witness, answer] = &mut self.0;
+        library(
+            budget,
+            problem.slice(),
+            work.slice(),
+            witness.slice(),
+            answer.slice(),
+        )
+    }
 }
 
 /// What a call did, by the reference.
@@ -100,18 +111,23 @@ pub struct Done<'a> {
     pub witness: (&'a [u8], &'a [u8]),
 }
 
+/// The library's own call, or what a test puts in its place.
+pub type Raw = fn(u64, &[u8], &mut [u8], &mut [u8], &mut [u8]) -> u32;
+
 /// Both sides, and the noise that their buffers start from.
 pub struct Lender {
+    library: Raw,
     noise: Vec<u8>,
     ours: Buffers,
     theirs: Buffers,
 }
 
 impl Lender {
-    pub fn new(rng: &mut Rng) -> Self {
+    pub fn new(rng: &mut Rng, library: Raw) -> Self {
         let noise = (0..80_000).map(|_| rng.next() as u8).collect();
         let buffers = Buffers(std::array::from_fn(|_| Lent::empty()));
         Self {
+            library,
             noise,
             ours: buffers.clone(),
             theirs: buffers,
@@ -130,7 +146,7 @@ impl Lender {
         self.ours.refill(&self.noise, at, problem, lengths);
         self.theirs.refill(&self.noise, at, problem, lengths);
         let answer = by_reference(budget, &mut self.ours);
-        let returned = by_library(budget, &mut self.theirs);
+        let returned = self.theirs.lend(budget, self.library);
         if returned != u32::from(answer.is_some()) || self.ours != self.theirs {
             self.differ(budget, lengths, answer, returned);
         }
@@ -167,15 +183,4 @@ fn by_reference(budget: u64, buffers: &mut Buffers) -> Option<Answer> {
         .then(|| reference::decide(budget, problem.slice(), work.slice(), witness.slice()))?;
     answer.slice()[..ANSWER_LEN].copy_from_slice(&host::encode(&decided));
     Some(decided)
-}
-
-fn by_library(budget: u64, buffers: &mut Buffers) -> u32 {
-    let [problem, work, witness, answer] = &mut buffers.0;
-    host::raw_decide(
-        budget,
-        problem.slice(),
-        work.slice(),
-        witness.slice(),
-        answer.slice(),
-    )
 }

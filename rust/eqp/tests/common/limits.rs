@@ -4,21 +4,27 @@ use eqp::problem::{Formula, Problem, Term};
 use eqp::samples::variables;
 use eqp::workloads;
 
+use super::fields;
+
 /// The largest product that is not refused.
 const MOST_PLACES: u128 = 1_000_000_000_000_000_000;
 
 /// A problem, and the refusal number and place that it must get if any.
 pub type Case = (Vec<u8>, Option<(u8, u64)>);
 
-/// All of them.
-pub fn cases() -> Vec<Case> {
-    let mut cases = counts();
-    cases.extend(symbols());
-    cases.extend(nodes());
-    cases.extend(applications());
-    cases.extend(products());
-    cases.push((workloads::largest().bytes(), Some((13, 0))));
-    cases
+/// All of them, by what they are the limits of.
+pub fn groups() -> [(&'static str, Vec<Case>); 8] {
+    let largest = (workloads::largest().bytes(), Some((13, 0)));
+    [
+        ("counts", counts()),
+        ("symbols", symbols()),
+        ("nodes", nodes()),
+        ("fields", fields::cases()),
+        ("applications", applications()),
+        ("products", products()),
+        ("arrays", arrays()),
+        ("tables", vec![largest]),
+    ]
 }
 
 /// So many symbols, then nodes up to so many: one true, and negations.
@@ -115,6 +121,20 @@ fn applied(functions: usize, predicates: usize) -> Problem {
         p.test(q, &[repeat]);
     }
     p
+}
+
+/// Tables on both sides of 86 nodes, where the library takes larger arrays: x = y, and negations.
+fn arrays() -> Vec<Case> {
+    let table = |nodes| {
+        let mut p = Problem::new();
+        let x = variables(&mut p, "x", 2);
+        let mut last = p.equal(x[0], x[1]);
+        while p.node_count() < nodes {
+            last = p.not(last);
+        }
+        (p.bytes(), None)
+    };
+    (84..=89).map(table).collect()
 }
 
 fn applications() -> Vec<Case> {
