@@ -93,7 +93,8 @@ mod tests {
             let one: u8 = "1".parse().expect("a number");
             let sum = panic::catch_unwind(|| u8::MAX + one);
             assert!(sum.is_err(), "overflow checks are off");
-            assert!(cfg!(debug_assertions), "debug assertions are off");
+            let asserted = panic::catch_unwind(|| debug_assert!(one == 2));
+            assert!(asserted.is_err(), "debug assertions are off");
         }
     }
 }

@@ -12,6 +12,7 @@ pub mod floors;
 pub mod generate;
 pub mod lend;
 pub mod limits;
+pub mod lines;
 pub mod notice;
 pub mod refuse;
 pub mod replay;
