@@ -59,7 +59,7 @@ type Said = (Facts, &'static str);
 
 #[rustfmt::skip] // One row on a line.
 const SAID: &[Row<Said>] = &[
-    ("unsat, with functions", |(f, said)| *said == "unsat" && has_arguments(f, 0), 1),
+    ("unsat, with functions", |(f, said)| *said == "unsat" && has_arguments(f, 0), 90),
     ("unsat, with predicates", |(f, said)| *said == "unsat" && has_arguments(f, 1), 70),
     ("sat, with functions", |(f, said)| *said == "sat" && has_arguments(f, 0), 80),
     ("sat, with predicates", |(f, said)| *said == "sat" && has_arguments(f, 1), 80),

@@ -4,9 +4,9 @@ use super::limits::Case;
 
 /// The symbols: functions of arity 0 to 3, then predicates.
 const SYMBOLS: [u8; 8] = [0, 1, 2, 3, 16, 17, 18, 19];
-/// A term and a formula to take, then the node in question, then true.
-const TERM: u16 = 0;
-const FORMULA: u16 = 1;
+/// A formula and a term to take, then the node in question, then true.
+const FORMULA: u16 = 0;
+const TERM: u16 = 1;
 const PLACE: u16 = 2;
 
 /// A node in question: op, symbol, and for each operand the number of what it takes.
@@ -35,8 +35,8 @@ const SUBJECTS: [Subject; 16] = [
 fn problem(op: u8, symbol: u8, operands: [u16; 3]) -> Vec<u8> {
     let mut bytes = b"EQP\x01\x00\x08\x04\x00".to_vec();
     bytes.extend_from_slice(&SYMBOLS);
-    bytes.extend_from_slice(&[0, 0, 0, 0, 0, 0, 0, 0]);
     bytes.extend_from_slice(&[7, 0, 0, 0, 0, 0, 0, 0]);
+    bytes.extend_from_slice(&[0, 0, 0, 0, 0, 0, 0, 0]);
     bytes.extend_from_slice(&[op, symbol]);
     for operand in operands {
         bytes.extend_from_slice(&operand.to_le_bytes());

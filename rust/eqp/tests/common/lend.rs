@@ -8,7 +8,7 @@ use super::rng::Rng;
 const GUARD: usize = 24;
 
 /// The lengths of the lent buffers.
-#[derive(Clone, Copy, Debug)]
+#[derive(Clone, Copy, Debug, PartialEq, Eq)]
 pub struct Lengths {
     pub work: usize,
     pub witness: usize,

@@ -49,7 +49,7 @@ impl Line {
 /// The lines of one long stream. No problem is refused by 11 and 12, which are about buffers.
 #[rustfmt::skip] // One row on a line.
 pub const LINES: &[Row<Line>] = &[
-    ("lines", |_| true, 1),
+    ("lines", |_| true, 4_000),
     ("valid", |l| l.is("VALID"), 1_000),
     ("valid after place 1", |l| l.is("VALID") && l.first > 1, 700),
     ("falsified", |l| l.is("FALSIFIED"), 1_000),

@@ -160,7 +160,7 @@ pub fn many_functions(rng: &mut Rng) -> Vec<u8> {
     for i in 0..rng.within(25, 60) - x.len() {
         terms.push(p.apply(f, &[x[i % x.len()], terms[i]]));
     }
-    for _ in 0..rng.below(20) {
+    for _ in 0..rng.below(40) {
         p.test(q, &[*rng.pick(&terms)]);
     }
     p.yes();
