@@ -50,16 +50,20 @@ fn no_mistake() {
 
 #[test]
 fn mistakes_in_the_buffers() {
-    let mistakes: [Raw; 10] = [
+    let mistakes: [Raw; 14] = [
         mistake!(work, witness, answer: work[0] ^= 1),
         mistake!(work, witness, answer: work[8 * 10 - 1] ^= 1),
         mistake!(work, witness, answer: work[8 * 10] ^= 1),
+        mistake!(work, witness, answer: work[8 * 10..].fill(0)),
+        mistake!(work, witness, answer: work[8 * 10..].fill(0xff)),
         mistake!(work, witness, answer: *work.last_mut().unwrap() ^= 1),
         mistake!(work, witness, answer: witness[6 + 4] ^= 1),
         mistake!(work, witness, answer: witness[6 + 5 * 4] ^= 1),
+        mistake!(work, witness, answer: witness[6 + 5 * 4..].fill(0)),
         mistake!(work, witness, answer: *witness.last_mut().unwrap() ^= 1),
         mistake!(work, witness, answer: answer[16] ^= 1),
         mistake!(work, witness, answer: answer[ANSWER_LEN] ^= 1),
+        mistake!(work, witness, answer: answer[ANSWER_LEN..].fill(0)),
         mistake!(work, witness, answer: *answer.last_mut().unwrap() ^= 1),
     ];
     let five = row(5).bytes();

@@ -138,20 +138,37 @@ fn run(starter: &Path, input: &[u8]) -> Vec<u8> {
 
 /// The lines that both print for an input.
 fn expect_same(starter: &Path, input: &[u8]) -> Vec<String> {
-    let (wanted, printed) = (reference::night(input), run(starter, input));
+    expect_lines(&reference::night(input), &run(starter, input))
+}
+
+/// The lines, which must be the same to the last byte.
+fn expect_lines(wanted: &[u8], printed: &[u8]) -> Vec<String> {
     let lines = |all: &[u8]| -> Vec<String> { text(all).lines().map(str::to_owned).collect() };
     if wanted != printed {
-        let (wanted, printed) = (lines(&wanted), lines(&printed));
+        let (wanted, printed) = (lines(wanted), lines(printed));
         let same = wanted.iter().zip(&printed).take_while(|(a, b)| a == b);
         let line = same.count();
         panic!(
-            "line {line} of {} bytes: the reference prints {:?}, the program {:?}",
-            input.len(),
+            "line {line}: the reference prints {:?}, the program {:?}",
             wanted.get(line),
             printed.get(line)
         );
     }
-    lines(&printed)
+    lines(printed)
+}
+
+#[test]
+#[should_panic(
+    expected = "line 1: the reference prints Some(\"END 0\"), the program Some(\"END 1\")"
+)]
+fn another_line() {
+    expect_lines(b"EQP NIGHT 1\nEND 0\n", b"EQP NIGHT 1\nEND 1\n");
+}
+
+#[test]
+#[should_panic(expected = "line 2: the reference prints None, the program None")]
+fn no_line_feed() {
+    expect_lines(b"EQP NIGHT 1\nEND 0\n", b"EQP NIGHT 1\nEND 0");
 }
 
 /// A problem, and a budget: a wide one only where no walk can be long, whatever the verdict.

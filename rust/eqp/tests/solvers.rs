@@ -101,11 +101,45 @@ fn expect_agreement(solver: &str, arguments: &[&str]) {
         }
         Err(error) => panic!("{solver} does not run: {error}"),
     };
+    expect_said(solver, &problems, &printed);
+}
+
+/// A solver must print one line for each problem, and the right one.
+fn expect_said(solver: &str, problems: &[Vec<u8>], printed: &str) {
     let said: Vec<&str> = printed.lines().collect();
     assert_eq!(said.len(), problems.len(), "{solver} prints {printed}");
     for (problem, said) in problems.iter().zip(said) {
         assert_eq!(said, verdict(problem), "{solver} on {problem:?}");
     }
+}
+
+/// Rows 1 and 2 are valid and falsified.
+fn expect_two_rows(printed: &str) {
+    let two = [row(1).bytes(), row(2).bytes()];
+    expect_said("a solver", &two, printed);
+}
+
+#[test]
+fn two_verdicts() {
+    expect_two_rows("unsat\nsat\n");
+}
+
+#[test]
+#[should_panic(expected = "a solver on")]
+fn a_wrong_verdict() {
+    expect_two_rows("unsat\nunsat\n");
+}
+
+#[test]
+#[should_panic(expected = "a solver on")]
+fn another_wrong_verdict() {
+    expect_two_rows("sat\nsat\n");
+}
+
+#[test]
+#[should_panic(expected = "a solver prints")]
+fn too_few_verdicts() {
+    expect_two_rows("unsat\n");
 }
 
 #[test]

@@ -14,7 +14,7 @@ pub struct Facts {
     pub arities: [[bool; 4]; 2],
     /// An application that an earlier node repeats.
     pub repeat: [bool; 2],
-    /// A repeat with other nodes between it and the earliest one.
+    /// A repeat with another distinct application of its kind between it and the earliest one.
     pub far_repeat: [bool; 2],
     /// Two applications of a symbol that differ in this operand alone.
     pub near_repeat: [bool; 3],
@@ -64,9 +64,9 @@ impl Facts {
     fn compare(&mut self, kind: usize, all: &[Node], applications: &[usize]) {
         let mut distinct: Vec<usize> = Vec::new();
         for &i in applications {
-            if let Some(&first) = distinct.iter().find(|&&first| all[first] == all[i]) {
+            if let Some(first) = distinct.iter().position(|&first| all[first] == all[i]) {
                 self.repeat[kind] = true;
-                self.far_repeat[kind] |= first + 1 < i;
+                self.far_repeat[kind] |= first + 1 < distinct.len();
                 self.root_repeats |= i + 1 == all.len();
                 continue;
             }
