@@ -1,21 +1,22 @@
 //! The proved library against the reference on many generated problems.
 
-mod common;
+mod compared;
+mod counted;
+mod made;
 
 use std::thread;
 use std::time::Instant;
 
-use common::budgets::WIDE;
-use common::calls::Call;
-use common::effects::expect_effects;
-use common::floors::CALLS;
-use common::generate::{self, Shape};
-use common::lend::{Lender, Lengths};
-use common::notice::notice;
-use common::rng::Rng;
-use common::tally::Tally;
-use common::{limits, refuse};
-use eqp::{host, workloads, Answer, ANSWER_LEN, WITNESS_LEN, WORK_LEN};
+use compared::lend::{Lender, Lengths};
+use compared::notice::notice;
+use counted::calls::Call;
+use counted::floors::CALLS;
+use counted::tally::Tally;
+use eqp::{host, reference, workloads, Answer, ANSWER_LEN, WITNESS_LEN, WORK_LEN};
+use made::budgets::WIDE;
+use made::generate::{self, Shape};
+use made::rng::Rng;
+use made::{limits, refuse};
 
 /// A comparison under way.
 struct Comparison {
@@ -28,16 +29,15 @@ impl Comparison {
     fn new(seed: u64) -> Self {
         let mut rng = Rng::new(seed);
         Self {
-            lender: Lender::new(&mut rng, host::raw_decide),
+            lender: Lender::new(&mut rng, reference::decide, host::raw_decide),
             rng,
             tally: Tally::new(CALLS),
         }
     }
 
-    /// Compares one call, and holds its effects against document 01.
+    /// Compares one call, and counts it.
     fn call(&mut self, budget: u64, problem: &[u8], lengths: Lengths) -> Option<Answer> {
         let done = self.lender.call(&mut self.rng, budget, problem, lengths);
-        expect_effects(problem, &done);
         let answer = done.answer;
         let call = Call::new(budget, problem, lengths, answer, done.witness.1);
         self.tally.add(&call);

@@ -1,19 +1,21 @@
 //! What counts the generated calls is held against cases made by hand: the tallies, the facts of
 //! a problem, and the flaws of a node.
 
-mod common;
+mod compared;
+mod counted;
+mod made;
 
-use common::budgets::WIDE;
-use common::calls::Call;
-use common::facts::{only_flaw, Facts, Flaw};
-use common::floors::CALLS;
-use common::lend::Lengths;
-use common::lines::{Line, ENDS, LINES};
-use common::tally::{Row, Tally};
-use common::{fields, limits};
+use compared::lend::Lengths;
+use counted::calls::Call;
+use counted::facts::{only_flaw, Facts, Flaw};
+use counted::floors::CALLS;
+use counted::lines::{Line, ENDS, LINES};
+use counted::tally::{Row, Tally};
 use eqp::problem::Problem;
 use eqp::samples::{ackermann, row, three_tests, variables};
 use eqp::Answer;
+use made::budgets::WIDE;
+use made::{fields, limits};
 
 const PARITY: &[Row<u64>] = &[
     ("even", |n| n % 2 == 0, 2),

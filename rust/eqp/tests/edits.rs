@@ -1,12 +1,14 @@
 //! The problems that are made to be refused have all the flaws that they are for, each often.
 
-mod common;
+mod compared;
+mod counted;
+mod made;
 
-use common::facts::{only_flaw, Facts, Flaw};
-use common::generate::{self, Shape};
-use common::refuse;
-use common::rng::Rng;
-use common::tally::{Row, Tally};
+use counted::facts::{only_flaw, Facts, Flaw};
+use counted::tally::{Row, Tally};
+use made::generate::{self, Shape};
+use made::refuse;
+use made::rng::Rng;
 
 /// An edit: the refusal's number, the problem before and after, and the place.
 struct Edit {

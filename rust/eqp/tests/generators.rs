@@ -1,17 +1,19 @@
 //! The generators make all that they are for. Each has a table of what must come up, so that one
 //! that goes lame fails here even where another makes up for it in the comparison.
 
-mod common;
+mod compared;
+mod counted;
+mod made;
 
 use std::collections::BTreeSet;
 
-use common::facts::Facts;
-use common::generate::{self, Shape};
-use common::lend::Lengths;
-use common::limits;
-use common::rng::Rng;
-use common::tally::{Row, Tally};
+use compared::lend::Lengths;
+use counted::facts::Facts;
+use counted::tally::{Row, Tally};
 use eqp::{ANSWER_LEN, WITNESS_LEN, WORK_LEN};
+use made::generate::{self, Shape};
+use made::limits;
+use made::rng::Rng;
 
 /// How often a number below `end` came up in so many draws, each.
 fn spread(end: usize, draws: usize, mut draw: impl FnMut() -> usize) -> Vec<usize> {

@@ -1,17 +1,19 @@
 //! The comparison must notice a library that errs. The library is proved, so mistakes are put in
 //! its place here, and into the buffers that document 01's effects are read from.
 
-mod common;
+mod compared;
+mod made;
 
 use std::panic::{self, AssertUnwindSafe};
 
-use common::effects::expect_effects;
-use common::lend::{Done, Lender, Lengths, Raw};
-use common::replay::{is_true, is_true_at_random, is_true_by, table_nodes};
-use common::rng::Rng;
+use compared::both::Decide;
+use compared::effects::expect_effects;
+use compared::lend::{Done, Lender, Lengths, Raw};
+use compared::replay::{is_true, is_true_at_random, is_true_by, table_nodes};
 use eqp::problem::{Formula, Problem};
 use eqp::samples::{ackermann, row, three_tests};
 use eqp::{host, reference, workloads, Answer, ANSWER_LEN, WITNESS_LEN, WORK_LEN};
+use made::rng::Rng;
 
 /// Longer buffers than there need be.
 const LONG: Lengths = Lengths {
@@ -21,8 +23,18 @@ const LONG: Lengths = Lengths {
 };
 
 fn is_noticed(library: Raw, budget: u64, problem: &[u8], lengths: Lengths) -> bool {
+    both_are_noticed(reference::decide, library, budget, problem, lengths)
+}
+
+fn both_are_noticed(
+    reference: Decide,
+    library: Raw,
+    budget: u64,
+    problem: &[u8],
+    lengths: Lengths,
+) -> bool {
     let mut rng = Rng::new(1);
-    let mut lender = Lender::new(&mut rng, library);
+    let mut lender = Lender::new(&mut rng, reference, library);
     let call = || {
         lender.call(&mut rng, budget, problem, lengths);
     };
@@ -69,6 +81,34 @@ fn mistakes_in_the_buffers() {
     let five = row(5).bytes();
     for (i, mistake) in mistakes.into_iter().enumerate() {
         assert!(is_noticed(mistake, 9, &five, LONG), "mistake {i}");
+    }
+}
+
+/// The same mistake on both sides goes against document 01: here a byte past the table, then past
+/// the witness.
+#[test]
+fn mistakes_on_both_sides() {
+    let mistakes: [(Decide, Raw); 2] = [
+        (
+            |budget, problem, work, witness| {
+                let answer = reference::decide(budget, problem, work, witness);
+                work[8 * 10] ^= 1;
+                answer
+            },
+            mistake!(work, witness, answer: work[8 * 10] ^= 1),
+        ),
+        (
+            |budget, problem, work, witness| {
+                let answer = reference::decide(budget, problem, work, witness);
+                witness[6 + 5 * 4] ^= 1;
+                answer
+            },
+            mistake!(work, witness, answer: witness[6 + 5 * 4] ^= 1),
+        ),
+    ];
+    let five = row(5).bytes();
+    for (reference, library) in mistakes {
+        assert!(both_are_noticed(reference, library, 9, &five, LONG));
     }
 }
 

@@ -1,6 +1,8 @@
 //! The night run: document 01's sample, and the proved program against the reference.
 
-mod common;
+mod compared;
+mod counted;
+mod made;
 
 use std::env;
 use std::io::Write;
@@ -8,18 +10,18 @@ use std::path::{Path, PathBuf};
 use std::process::{Command, Stdio};
 use std::thread;
 
-use common::budgets::WIDE;
-use common::facts::Facts;
-use common::generate::{self, Shape};
-use common::lines::{Line, ENDS, LINES};
-use common::notice::notice;
-use common::refuse;
-use common::rng::Rng;
-use common::tally::Tally;
+use compared::notice::notice;
+use counted::facts::Facts;
+use counted::lines::{Line, ENDS, LINES};
+use counted::tally::Tally;
 use eqp::jobs::Jobs;
 use eqp::problem::Problem;
 use eqp::reference;
 use eqp::samples::{self, row, variables};
+use made::budgets::WIDE;
+use made::generate::{self, Shape};
+use made::refuse;
+use made::rng::Rng;
 
 /// How many jobs the stream has.
 const JOBS: usize = 10_000;

@@ -1,10 +1,11 @@
 //! The refusals in the order of document 01, and the lengths of the lent buffers, for the proved
 //! library and for the reference alike.
 
-mod common;
+mod compared;
+mod made;
 
-use common::both::{falsified, refused, stopped, BOTH, FILL};
-use common::notice::notice;
+use compared::both::{falsified, refused, stopped, BOTH, FILL};
+use compared::notice::notice;
 use eqp::problem::Problem;
 use eqp::samples::{row, variables};
 use eqp::{host, Answer, ANSWER_LEN, WITNESS_LEN, WORK_LEN};

@@ -2,18 +2,19 @@
 //!
 //! Every value here is from the paper or from docs/FORMAT.md, or worked by hand from them.
 
-mod common;
+mod compared;
+mod made;
 
 use std::thread;
 
-use common::both::{
+use compared::both::{
     call, expect, expect_table, expect_witness, falsified, refused, stopped, valid,
 };
-use common::both::{Call, BOTH, FILL};
-use common::budgets::WIDE;
+use compared::both::{Call, BOTH, FILL};
 use eqp::problem::{Formula, Problem, Term};
 use eqp::samples::{self, row, variables};
 use eqp::{host, workloads, Answer, WITNESS_LEN, WORK_LEN};
+use made::budgets::WIDE;
 
 /// The twelve rows with an ample budget.
 fn twelve() -> [Answer; 12] {

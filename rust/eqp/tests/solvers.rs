@@ -1,20 +1,23 @@
 //! The verdicts against z3 and cvc5, where they are installed: valid must be unsat, falsified sat
 //! for the formula's negation.
 
-mod common;
+mod compared;
+mod counted;
+mod made;
 
+use std::env;
 use std::io::{self, Write};
 use std::process::{Command, Stdio};
 use std::thread;
 
-use common::both::{call, BOTH};
-use common::facts::Facts;
-use common::generate::{self, Shape};
-use common::notice::notice;
-use common::rng::Rng;
-use common::tally::{Row, Tally};
+use compared::both::{call, BOTH};
+use compared::notice::notice;
+use counted::facts::Facts;
+use counted::tally::{Row, Tally};
 use eqp::samples::{ackermann, inlined_tap, late_tap, row};
 use eqp::{smt, Answer};
+use made::generate::{self, Shape};
+use made::rng::Rng;
 
 /// How many problems are generated.
 const PROBLEMS: usize = 600;
@@ -72,6 +75,12 @@ fn has_arguments(facts: &Facts, kind: usize) -> bool {
     facts.arities[kind][1..].contains(&true)
 }
 
+/// Whether a directory of the PATH has this program.
+fn is_on_path(program: &str) -> bool {
+    let path = env::var_os("PATH").unwrap_or_default();
+    env::split_paths(&path).any(|directory| directory.join(program).is_file())
+}
+
 /// What a solver prints for a script.
 fn run(solver: &str, arguments: &[&str], script: &str) -> io::Result<String> {
     let mut child = Command::new(solver)
@@ -89,18 +98,15 @@ fn run(solver: &str, arguments: &[&str], script: &str) -> io::Result<String> {
 
 /// Holds all verdicts against a solver's; says a word where it is not on the PATH.
 fn expect_agreement(solver: &str, arguments: &[&str]) {
+    if !is_on_path(solver) {
+        return notice(&format!("skipped: {solver} is not on the PATH"));
+    }
     let problems = problems();
     let mut script = String::from(smt::PREAMBLE);
     for problem in &problems {
         script += &smt::job(problem).expect("an accepted problem");
     }
-    let printed = match run(solver, arguments, &script) {
-        Ok(printed) => printed,
-        Err(error) if error.kind() == io::ErrorKind::NotFound => {
-            return notice(&format!("skipped: {solver} is not on the PATH"));
-        }
-        Err(error) => panic!("{solver} does not run: {error}"),
-    };
+    let printed = run(solver, arguments, &script).expect("the solver runs");
     expect_said(solver, &problems, &printed);
 }
 
@@ -117,6 +123,13 @@ fn expect_said(solver: &str, problems: &[Vec<u8>], printed: &str) {
 fn expect_two_rows(printed: &str) {
     let two = [row(1).bytes(), row(2).bytes()];
     expect_said("a solver", &two, printed);
+}
+
+/// The night program is started by bash, so that is on the PATH where these tests run.
+#[test]
+fn programs_on_the_path() {
+    assert!(is_on_path("bash"));
+    assert!(!is_on_path("no such solver"));
 }
 
 #[test]

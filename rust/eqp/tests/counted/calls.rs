@@ -3,7 +3,7 @@
 use eqp::{Answer, ANSWER_LEN, WITNESS_LEN, WORK_LEN};
 
 use super::facts::{only_flaw, Facts, Flaw};
-use super::lend::Lengths;
+use crate::compared::lend::Lengths;
 
 /// A call that both sides answered alike.
 pub struct Call {

@@ -4,8 +4,8 @@ use eqp::problem::Problem;
 use eqp::samples::variables;
 
 use super::generate::{Growing, Shape};
-use super::replay::{arity, nodes};
 use super::rng::Rng;
+use crate::compared::replay::{arity, nodes};
 
 /// An edit of a well-formed problem that is refused by `number`, 1 to 8; and the place.
 pub fn edit(rng: &mut Rng, number: u8, problem: &[u8]) -> (Vec<u8>, u64) {

@@ -1,6 +1,6 @@
 //! What a problem has in it, read from its bytes alone, so that the tests can count what came up.
 
-use super::replay::{arity, nodes, table_nodes};
+use crate::compared::replay::{arity, nodes, table_nodes};
 
 /// A node: op, symbol and operands.
 type Node = (u8, u8, [usize; 3]);
