@@ -157,6 +157,7 @@ fn facts_of_the_ackermann_example() {
         far_repeat: [true, false],
         near_repeat: [true, false, false],
         threefold: [true, false],
+        congruence: true,
         distinct: [6, 0],
         table_nodes: 19,
         ..Facts::default()
@@ -213,6 +214,8 @@ fn facts_of_repeats() {
         (false, [true, false])
     );
     assert!(!facts.equated_choice && Facts::of(&row(9).bytes()).equated_choice);
+    let congruence = |number| Facts::of(&row(number).bytes()).congruence;
+    assert_eq!([4, 5, 6, 12].map(congruence), [true, true, false, true]);
 }
 
 /// Row 9 falsified: no rows coincide. In row 12 x = y at place 1, and both rows of f are f(1).

@@ -83,8 +83,8 @@ const SMALL: &[Row<Facts>] = &[
     ("predicates of arity 3", |f| f.arities[1][3], 500),
     ("repeats of functions", |f| f.repeat[0], 3_000),
     ("repeats of predicates", |f| f.repeat[1], 900),
-    ("far repeats of functions", |f| f.far_repeat[0], 1_000),
-    ("far repeats of predicates", |f| f.far_repeat[1], 100),
+    ("far repeats of functions", |f| f.far_repeat[0], 200),
+    ("far repeats of predicates", |f| f.far_repeat[1], 80),
     ("all but repeats, operand 1", |f| f.near_repeat[0], 400),
     ("all but repeats, operand 2", |f| f.near_repeat[1], 100),
     ("all but repeats, operand 3", |f| f.near_repeat[2], 40),
@@ -94,6 +94,7 @@ const SMALL: &[Row<Facts>] = &[
     ("predicates not reached", |f| f.unreached[1], 1_000),
     ("a repeat asked", |f| f.root_repeats, 200),
     ("choices in equations", |f| f.equated_choice, 1_000),
+    ("equations of a function and its arguments", |f| f.congruence, 300),
     ("no applications", |f| f.distinct == [0, 0], 40),
     ("7 functions", |f| f.distinct[0] == 7, 10),
     ("3 predicates", |f| f.distinct[1] == 3, 80),
@@ -111,9 +112,10 @@ const LARGE: &[Row<Facts>] = &[
     ("a function three times", |f| f.threefold[0], 700),
     ("a predicate three times", |f| f.threefold[1], 500),
     ("all but repeats, operand 3", |f| f.near_repeat[2], 90),
-    ("far repeats of functions", |f| f.far_repeat[0], 800),
-    ("far repeats of predicates", |f| f.far_repeat[1], 700),
+    ("far repeats of functions", |f| f.far_repeat[0], 600),
+    ("far repeats of predicates", |f| f.far_repeat[1], 600),
     ("functions not reached", |f| f.unreached[0], 800),
+    ("equations of a function and its arguments", |f| f.congruence, 600),
     ("20 functions and more", |f| f.distinct[0] >= 20, 10),
     ("12 predicates and more", |f| f.distinct[1] >= 12, 50),
     ("tables up to 86 nodes", |f| f.table_nodes <= 86, 40),
@@ -180,13 +182,14 @@ type Group = (&'static str, usize, &'static [(u8, usize)]);
 /// A case that is dropped, or made twice in place of another, changes the counts.
 #[test]
 fn limits_on_both_sides() {
-    let wanted: [Group; 8] = [
+    let wanted: [Group; 9] = [
         ("counts", 4, &[(1, 1), (4, 3), (5, 3)]),
         ("symbols", 8, &[(6, 248)]),
         ("nodes", 2, &[(7, 260)]),
         ("fields", 16, &[(7, 256)]),
         ("applications", 3, &[(9, 3), (10, 2)]),
         ("products", 20, &[(13, 20)]),
+        ("wrapped products", 0, &[(13, 30)]),
         ("arrays", 6, &[]),
         ("tables", 0, &[(13, 1)]),
     ];

@@ -14,7 +14,8 @@ pub struct Facts {
     pub arities: [[bool; 4]; 2],
     /// An application that an earlier node repeats.
     pub repeat: [bool; 2],
-    /// A repeat with another distinct application of its kind between it and the earliest one.
+    /// A repeat with arguments, and with another distinct application of its kind between it and
+    /// the earliest one.
     pub far_repeat: [bool; 2],
     /// Two applications of a symbol that differ in this operand alone.
     pub near_repeat: [bool; 3],
@@ -26,6 +27,8 @@ pub struct Facts {
     pub root_repeats: bool,
     /// An equation has a choice for a side.
     pub equated_choice: bool,
+    /// An equation of two applications of one function, and one of their first arguments.
+    pub congruence: bool,
     /// The distinct applications.
     pub distinct: [usize; 2],
     /// The nodes of the function-free table.
@@ -47,6 +50,7 @@ impl Facts {
             facts.ops[usize::from(op)] = true;
             facts.equated_choice |= op == 2 && (all[a].0 == 1 || all[b].0 == 1);
         }
+        facts.congruence = congruence(problem, &all);
         let reached = reached(problem, &all);
         for (kind, op) in APPLICATIONS.into_iter().enumerate() {
             let of_kind = |&i: &usize| all[i].0 == op;
@@ -55,18 +59,19 @@ impl Facts {
                 facts.arities[kind][arity(problem, all[i].1)] = true;
                 facts.unreached[kind] |= !reached[i];
             }
-            facts.compare(kind, &all, &applications);
+            facts.compare(problem, kind, &all, &applications);
         }
         facts
     }
 
     /// Notes what the applications of one kind have in common.
-    fn compare(&mut self, kind: usize, all: &[Node], applications: &[usize]) {
+    fn compare(&mut self, problem: &[u8], kind: usize, all: &[Node], applications: &[usize]) {
         let mut distinct: Vec<usize> = Vec::new();
         for &i in applications {
             if let Some(first) = distinct.iter().position(|&first| all[first] == all[i]) {
                 self.repeat[kind] = true;
-                self.far_repeat[kind] |= first + 1 < distinct.len();
+                let has_arguments = arity(problem, all[i].1) > 0;
+                self.far_repeat[kind] |= has_arguments && first + 1 < distinct.len();
                 self.root_repeats |= i + 1 == all.len();
                 continue;
             }
@@ -90,6 +95,18 @@ impl Facts {
         let [functions, predicates] = self.distinct;
         (1..=functions as u128).product::<u128>() << predicates
     }
+}
+
+fn congruence(problem: &[u8], all: &[Node]) -> bool {
+    let equated = |a: usize, b: usize| {
+        all.iter()
+            .any(|&(op, _, [c, d, _])| op == 2 && [a, b] == [c, d])
+    };
+    all.iter().any(|&(op, _, [left, right, _])| {
+        let (left, right) = (all[left], all[right]);
+        let alike = op == 2 && left.0 == 0 && right.0 == 0 && left.1 == right.1;
+        alike && left.2 != right.2 && arity(problem, left.1) > 0 && equated(left.2[0], right.2[0])
+    })
 }
 
 /// Which nodes the last one reaches.
