@@ -92,9 +92,8 @@ mod tests {
         assert_eq!(job(&samples::row(9).bytes()).as_deref(), Ok(wanted));
     }
 
-    /// Every op, and applications of every arity, by hand.
-    #[test]
-    fn every_op() {
+    /// Nodes of every op, and applications of every arity.
+    fn of_every_op() -> Problem {
         let mut p = Problem::new();
         let f: Vec<_> = (0..4).map(|arity| p.function("f", arity)).collect();
         let q: Vec<_> = (0..4).map(|arity| p.predicate("q", arity)).collect();
@@ -115,6 +114,12 @@ mod tests {
         let or = p.or(tests[2], and);
         let (yes, no) = (p.yes(), p.no());
         p.select(or, yes, no);
+        p
+    }
+
+    /// Their text, by hand.
+    #[test]
+    fn every_op() {
         let wanted = "(push 1)\n\
             (declare-fun s0 () V)\n\
             (declare-fun s1 (V) V)\n\
@@ -141,7 +146,7 @@ mod tests {
             (define-fun n14 () Bool false)\n\
             (define-fun n15 () Bool (ite n12 n13 n14))\n\
             (assert (not n15))\n(check-sat)\n(pop 1)\n";
-        assert_eq!(job(&p.bytes()).as_deref(), Ok(wanted));
+        assert_eq!(job(&of_every_op().bytes()).as_deref(), Ok(wanted));
     }
 
     #[test]

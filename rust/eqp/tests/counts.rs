@@ -56,43 +56,44 @@ fn nothing_is_too_few() {
     assert_eq!(Tally::new(ENDS).short().len(), ENDS.len());
 }
 
-/// Two truths are as plain as can be: only these are counted of them.
-#[test]
-fn plain_calls() {
+/// What is counted of a call with two truths for a problem, as plain as can be.
+fn counted(budget: u64, answer: Option<Answer>, lengths: Lengths) -> Vec<&'static str> {
     let mut p = Problem::new();
     p.yes();
     p.yes();
-    let counted = |budget, answer, lengths| {
-        let mut tally = Tally::new(CALLS);
-        tally.add(&Call::new(budget, &p.bytes(), lengths, answer, &[]));
-        tally.counted()
+    let mut tally = Tally::new(CALLS);
+    tally.add(&Call::new(budget, &p.bytes(), lengths, answer, &[]));
+    tally.counted()
+}
+
+#[test]
+fn plain_calls() {
+    let (tried, product) = (1, 1);
+    let valid = |budget| {
+        counted(
+            budget,
+            Some(Answer::Valid { tried, product }),
+            Lengths::EXACT,
+        )
     };
-    let valid = Some(Answer::Valid {
-        tried: 1,
-        product: 1,
-    });
     let plain = ["calls", "op 7, true", "no applications"];
-    assert_eq!(counted(2, valid, Lengths::EXACT), plain);
-    let just = "valid, the budget is just enough";
-    assert_eq!(
-        counted(1, valid, Lengths::EXACT),
-        [&plain[..], &[just]].concat()
-    );
-    let bits =
-        ["8", "16", "32", "63"].map(|bits| format!("valid, not with {bits} bits of the budget"));
-    let bits: Vec<&str> = bits.iter().map(String::as_str).collect();
-    assert_eq!(
-        counted(1 << 63, valid, Lengths::EXACT),
-        [&plain[..], &bits].concat()
-    );
-    assert_eq!(
-        counted(1 << 32, valid, Lengths::EXACT),
-        [&plain[..], &bits[..3]].concat()
-    );
-    assert_eq!(
-        counted(1 << 16, valid, Lengths::EXACT),
-        [&plain[..], &bits[..2]].concat()
-    );
+    let with = |more: &[&'static str]| [&plain[..], more].concat();
+    assert_eq!(valid(2), plain);
+    assert_eq!(valid(1), with(&["valid, the budget is just enough"]));
+    let bits = [
+        "valid, not with 8 bits of the budget",
+        "valid, not with 16 bits of the budget",
+        "valid, not with 32 bits of the budget",
+        "valid, not with 63 bits of the budget",
+    ];
+    assert_eq!(valid(1 << 8), with(&bits[..1]));
+    assert_eq!(valid(1 << 16), with(&bits[..2]));
+    assert_eq!(valid(1 << 32), with(&bits[..3]));
+    assert_eq!(valid(1 << 63), with(&bits));
+}
+
+#[test]
+fn calls_without_an_answer() {
     let short = Lengths {
         answer: 31,
         ..Lengths::EXACT
@@ -157,7 +158,7 @@ fn facts_of_the_ackermann_example() {
         far_repeat: [true, false],
         near_repeat: [true, false, false],
         threefold: [true, false],
-        congruence: true,
+        congruence: [true, false],
         distinct: [6, 0],
         table_nodes: 19,
         ..Facts::default()
@@ -193,8 +194,8 @@ fn facts_of_repeats() {
     let mut p = Problem::new();
     let (f, q) = (p.function("f", 3), p.predicate("q", 0));
     let x = variables(&mut p, "x", 2);
-    p.apply(f, &[x[0], x[0], x[0]]);
-    p.apply(f, &[x[0], x[0], x[1]]);
+    let fxx = p.apply(f, &[x[0], x[0], x[0]]);
+    let fxy = p.apply(f, &[x[0], x[0], x[1]]);
     p.test(q, &[]);
     p.test(q, &[]);
     let mut facts = Facts::of(&p.bytes());
@@ -215,7 +216,15 @@ fn facts_of_repeats() {
     );
     assert!(!facts.equated_choice && Facts::of(&row(9).bytes()).equated_choice);
     let congruence = |number| Facts::of(&row(number).bytes()).congruence;
-    assert_eq!([4, 5, 6, 12].map(congruence), [true, true, false, true]);
+    let whole = [true, false];
+    assert_eq!(
+        [4, 5, 6, 12].map(congruence),
+        [whole, whole, [false; 2], whole]
+    );
+    p.equal(fxx, fxy);
+    assert_eq!(Facts::of(&p.bytes()).congruence, [false; 2]);
+    p.equal(x[0], x[1]);
+    assert_eq!(Facts::of(&p.bytes()).congruence, [false, true]);
 }
 
 /// Row 9 falsified: no rows coincide. In row 12 x = y at place 1, and both rows of f are f(1).

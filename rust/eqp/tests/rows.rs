@@ -92,6 +92,23 @@ fn witnesses() {
     expect_witness(&row(11), b"EQW\x01\x00\x00", "");
 }
 
+/// Not x = y, or z = f(x), or p(f(y)).
+fn image_and_own_variable() -> Problem {
+    let mut p = Problem::new();
+    let (x, y, z) = (p.function("x", 0), p.function("y", 0), p.function("z", 0));
+    let (f, q) = (p.function("f", 1), p.predicate("p", 1));
+    let (x, y) = (p.apply(x, &[]), p.apply(y, &[]));
+    let same = p.equal(x, y);
+    let apart = p.not(same);
+    let (z, fx) = (p.apply(z, &[]), p.apply(f, &[x]));
+    let image = p.equal(z, fx);
+    let either = p.or(apart, image);
+    let fy = p.apply(f, &[y]);
+    let test = p.test(q, &[fy]);
+    p.or(either, test);
+    p
+}
+
 /// Not x = y, or z = f(x), or p(f(y)), worked by hand.
 ///
 /// The variables are x, y, z, f(x) and f(y), by number; nodes 2 and 9 of the table link x with y,
@@ -105,18 +122,7 @@ fn witnesses() {
 /// so 2, both as the value of f(y) and as the argument of p.
 #[test]
 fn rows_list_the_images() {
-    let mut p = Problem::new();
-    let (x, y, z) = (p.function("x", 0), p.function("y", 0), p.function("z", 0));
-    let (f, q) = (p.function("f", 1), p.predicate("p", 1));
-    let (x, y) = (p.apply(x, &[]), p.apply(y, &[]));
-    let same = p.equal(x, y);
-    let apart = p.not(same);
-    let (z, fx) = (p.apply(z, &[]), p.apply(f, &[x]));
-    let image = p.equal(z, fx);
-    let either = p.or(apart, image);
-    let fy = p.apply(f, &[y]);
-    let test = p.test(q, &[fy]);
-    p.or(either, test);
+    let p = image_and_own_variable();
     let table = [
         [0, 0, 0, 0, 0, 0, 0, 0],  //  0 x
         [0, 1, 0, 0, 0, 0, 0, 0],  //  1 y

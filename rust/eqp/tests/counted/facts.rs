@@ -27,8 +27,9 @@ pub struct Facts {
     pub root_repeats: bool,
     /// An equation has a choice for a side.
     pub equated_choice: bool,
-    /// An equation of two applications of one function, and one of their first arguments.
-    pub congruence: bool,
+    /// An equation of two applications of one function with equations of all their arguments, and
+    /// one with equations of some.
+    pub congruence: [bool; 2],
     /// The distinct applications.
     pub distinct: [usize; 2],
     /// The nodes of the function-free table.
@@ -97,16 +98,21 @@ impl Facts {
     }
 }
 
-fn congruence(problem: &[u8], all: &[Node]) -> bool {
-    let equated = |a: usize, b: usize| {
-        all.iter()
-            .any(|&(op, _, [c, d, _])| op == 2 && [a, b] == [c, d])
-    };
-    all.iter().any(|&(op, _, [left, right, _])| {
+fn congruence(problem: &[u8], all: &[Node]) -> [bool; 2] {
+    let equations = || all.iter().filter(|node| node.0 == 2);
+    let equated = |a: usize, b: usize| equations().any(|(_, _, [c, d, _])| [a, b] == [*c, *d]);
+    let mut found = [false; 2];
+    for &(_, _, [left, right, _]) in equations() {
         let (left, right) = (all[left], all[right]);
-        let alike = op == 2 && left.0 == 0 && right.0 == 0 && left.1 == right.1;
-        alike && left.2 != right.2 && arity(problem, left.1) > 0 && equated(left.2[0], right.2[0])
-    })
+        if (left.0, left.1) == (right.0, right.1) && left.0 == 0 && left.2 != right.2 {
+            let arity = arity(problem, left.1);
+            let same = (0..arity).filter(|&k| equated(left.2[k], right.2[k]));
+            let same = same.count();
+            found[0] |= same == arity;
+            found[1] |= 0 < same && same < arity;
+        }
+    }
+    found
 }
 
 /// Which nodes the last one reaches.

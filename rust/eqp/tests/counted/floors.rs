@@ -41,7 +41,8 @@ pub const CALLS: &[Row<Call>] = &[
     ("predicates not reached", |c| c.has(|f| f.unreached[1]), 100_000),
     ("a repeat asked", |c| c.has(|f| f.root_repeats), 20_000),
     ("choices in equations", |c| c.has(|f| f.equated_choice), 100_000),
-    ("equations of a function and its arguments", |c| c.has(|f| f.congruence), 30_000),
+    ("equations of a function and its arguments", |c| c.has(|f| f.congruence[0]), 30_000),
+    ("equations of a function and some arguments", |c| c.has(|f| f.congruence[1]), 10_000),
     ("no applications", |c| c.has(|f| f.distinct == [0, 0]), 3_000),
     ("24 functions", |c| c.has(|f| f.distinct[0] == 24), 200),
     ("16 predicates", |c| c.has(|f| f.distinct[1] == 16), 100),
@@ -51,7 +52,7 @@ pub const CALLS: &[Row<Call>] = &[
     // The verdicts. The library takes sixteen places at a time.
     ("valid after place 1", |c| c.valid() > Some(1), 90_000),
     ("valid after place 16", |c| c.valid() > Some(16), 10_000),
-    ("valid, of a function and its arguments", |c| c.valid() > Some(1) && c.has(|f| f.congruence), 10_000),
+    ("valid, of a function and its arguments", |c| c.valid() > Some(1) && c.has(|f| f.congruence[0]), 9_000),
     ("falsified at place 1", |c| c.falsified() == Some(1), 90_000),
     ("falsified after place 1", |c| c.falsified() > Some(1), 20_000),
     ("falsified after place 16", |c| c.falsified() > Some(16), 800),
