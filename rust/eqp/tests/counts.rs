@@ -79,7 +79,7 @@ fn plain_calls() {
     let plain = ["calls", "op 7, true", "no applications"];
     let with = |more: &[&'static str]| [&plain[..], more].concat();
     assert_eq!(valid(2), plain);
-    assert_eq!(valid(1), with(&["valid, the budget is just enough"]));
+    assert_eq!(valid(1), plain);
     let bits = [
         "valid, not with 8 bits of the budget",
         "valid, not with 16 bits of the budget",
@@ -227,7 +227,7 @@ fn facts_of_repeats() {
     assert_eq!(Facts::of(&p.bytes()).congruence, [false, true]);
 }
 
-/// Row 9 falsified: no rows coincide. In row 12 x = y at place 1, and both rows of f are f(1).
+/// Rows 9 and 5 falsified: no rows coincide, f(1) and f(2) differ. In row 12 x = y at place 1, and both rows of f are f(1).
 #[test]
 fn coinciding_rows() {
     let coinciding = |number: usize, witness: &[u8]| {
@@ -241,6 +241,8 @@ fn coinciding_rows() {
     };
     let nine = b"EQW\x01\x00\x03\0\0\0\0\0\x01\0\0\0\x01\x02\0\0\0\x02";
     assert_eq!(coinciding(9, nine), [None, None]);
+    let five = b"EQW\x01\x00\x04\0\0\0\0\x01\x01\0\0\0\x02\x02\x01\0\0\x01\x02\x02\0\0\x01";
+    assert_eq!(coinciding(5, five), [None, None]);
     let twelve = b"EQW\x01\x00\x04\0\0\0\0\x01\x01\0\0\0\x01\x02\x01\0\0\x01\x02\x01\0\0\x01";
     assert_eq!(coinciding(12, twelve), [Some(1), None]);
 }
@@ -261,6 +263,10 @@ fn flaws_of_fields() {
     assert_eq!(count(Some(Flaw::NoSymbol)), 16);
     assert_eq!(count(Some(Flaw::OtherKind)), 16);
     assert_eq!(count(Some(Flaw::SymbolUnused)), 32);
+    let mut two = cases[0].0.clone();
+    let node = two.len() - 16;
+    two[node + 2..node + 8].copy_from_slice(&[1, 0, 1, 0, 0, 0]);
+    assert_eq!(only_flaw(&two, 2), None);
     let (_, nodes) = &limits::groups()[2];
     let op = |(bytes, _): &&limits::Case| only_flaw(bytes, 3) == Some(Flaw::Op);
     assert_eq!(nodes.iter().filter(op).count(), 246);

@@ -66,8 +66,10 @@ pub const CALLS: &[Row<Call>] = &[
     ("coinciding rows of a function, over 1", |c| c.coinciding[0] > Some(1), 3_000),
     ("coinciding rows of a predicate, true", |c| c.coinciding[1] > Some(0), 400),
     // The budgets.
-    ("valid, the budget is just enough", |c| c.valid() == Some(c.budget), 10_000),
-    ("falsified, the budget is just enough", |c| c.falsified() == Some(c.budget), 20_000),
+    ("valid, the budget is just enough", |c| c.valid() == Some(c.budget) && c.budget > 1, 10_000),
+    ("falsified, the budget is just enough", |c| c.falsified() == Some(c.budget) && c.budget > 1, 3_000),
+    ("stopped after 2 to 38 places", |c| c.stopped() > Some(1) && c.stopped() < Some(39), 5_000),
+    ("stopped after place 4,000", |c| c.stopped() > Some(4_000), 90),
     ("valid, not with 8 bits of the budget", |c| c.tells(c.valid(), 8), 20_000),
     ("valid, not with 16 bits of the budget", |c| c.tells(c.valid(), 16), 10_000),
     ("valid, not with 32 bits of the budget", |c| c.tells(c.valid(), 32), 10_000),
