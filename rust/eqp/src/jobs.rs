@@ -29,18 +29,3 @@ impl Jobs {
         &self.bytes
     }
 }
-
-#[cfg(test)]
-mod tests {
-    use super::*;
-
-    #[test]
-    fn two_jobs() {
-        let mut jobs = Jobs::new();
-        jobs.push(0x0102, b"EQ");
-        jobs.push(5, b"");
-        let first = [2, 1, 0, 0, 0, 0, 0, 0, 2, 0, b'E', b'Q'];
-        let second = [5, 0, 0, 0, 0, 0, 0, 0, 0, 0];
-        assert_eq!(jobs.bytes(), [&first[..], &second[..]].concat());
-    }
-}

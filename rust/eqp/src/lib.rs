@@ -22,7 +22,8 @@
 //!
 //! From this directory, once `.ci/archive` has made `target/staticlib/libhost.a`:
 //!
-//! - `cargo test --release` runs the worked rows, the comparison and the night run;
+//! - `cargo test --profile checked` runs the worked rows, the comparison, the night run and, where
+//!   z3 or cvc5 is on the PATH, the solvers;
 //! - `cargo run --release --bin bench` times both implementations;
 //! - `cargo run --release --bin make_examples` writes the files of `examples/` anew.
 
@@ -79,4 +80,21 @@ pub enum Answer {
         /// The number of places.
         product: u64,
     },
+}
+
+#[cfg(test)]
+mod tests {
+    use std::{env, panic};
+
+    /// A profile without the checks lets sums wrap in silence, so the gate must not use one.
+    #[test]
+    fn the_gate_checks_sums() {
+        if env::var_os("CI").is_some() {
+            let one: u8 = "1".parse().expect("a number");
+            let sum = panic::catch_unwind(|| u8::MAX + one);
+            assert!(sum.is_err(), "overflow checks are off");
+            let asserted = panic::catch_unwind(|| debug_assert!(one == 2));
+            assert!(asserted.is_err(), "debug assertions are off");
+        }
+    }
 }

@@ -35,23 +35,39 @@ impl Problem {
     }
 
     /// A new function symbol of arity 0 to 3; one of arity 0 is a variable.
+    ///
+    /// # Panics
+    ///
+    /// Where the arity is over 3, or there are 256 symbols already.
     pub fn function(&mut self, name: &str, arity: u8) -> Function {
         assert!(arity <= 3, "{name} has an arity over 3");
         Function(self.symbol(name, arity))
     }
 
     /// A new predicate symbol of arity 0 to 3; one of arity 0 is a truth variable.
+    ///
+    /// # Panics
+    ///
+    /// Where the arity is over 3, or there are 256 symbols already.
     pub fn predicate(&mut self, name: &str, arity: u8) -> Predicate {
         assert!(arity <= 3, "{name} has an arity over 3");
         Predicate(self.symbol(name, arity + 16))
     }
 
     /// A function application.
+    ///
+    /// # Panics
+    ///
+    /// Where there are more or fewer arguments than the arity.
     pub fn apply(&mut self, function: Function, arguments: &[Term]) -> Term {
         Term(self.application(0, function.0, arguments))
     }
 
     /// A predicate application.
+    ///
+    /// # Panics
+    ///
+    /// Where there are more or fewer arguments than the arity.
     pub fn test(&mut self, predicate: Predicate, arguments: &[Term]) -> Formula {
         Formula(self.application(6, predicate.0, arguments))
     }
@@ -102,6 +118,10 @@ impl Problem {
     }
 
     /// The problem bytes of document 01.
+    ///
+    /// # Panics
+    ///
+    /// Where there are over 255 symbols or 65,535 nodes, more than the header can say.
     pub fn bytes(&self) -> Vec<u8> {
         let symbol_count = u8::try_from(self.symbols.len()).expect("at most 255 symbols");
         let node_count = u16::try_from(self.nodes.len()).expect("at most 65,535 nodes");
@@ -115,6 +135,11 @@ impl Problem {
     }
 
     /// A witness in words, such as `x = 1, y = 2, f(1) = 1, f(2) = 1`.
+    ///
+    /// # Panics
+    ///
+    /// Where the bytes are no witness of this problem: fewer than 6, or with a symbol that it does
+    /// not have.
     pub fn explain(&self, witness: &[u8]) -> String {
         let rows = witness[6..].chunks_exact(5).take(usize::from(witness[5]));
         rows.map(|row| self.explain_row(row))
@@ -138,7 +163,7 @@ impl Problem {
     }
 
     fn symbol(&mut self, name: &str, kind: u8) -> u8 {
-        let number = u8::try_from(self.symbols.len()).expect("at most 255 symbols");
+        let number = u8::try_from(self.symbols.len()).expect("at most 256 symbols");
         self.names.push(name.to_string());
         self.symbols.push(kind);
         number
@@ -156,46 +181,10 @@ impl Problem {
     }
 
     fn node(&mut self, op: u8, symbol: u8, operands: [u16; 3]) -> u16 {
-        let number = u16::try_from(self.nodes.len()).expect("at most 65,535 nodes");
+        let number = u16::try_from(self.nodes.len()).expect("at most 65,536 nodes");
         let [a, b, c] = operands.map(u16::to_le_bytes);
         self.nodes
             .push([op, symbol, a[0], a[1], b[0], b[1], c[0], c[1]]);
         number
-    }
-}
-
-#[cfg(test)]
-mod tests {
-    use super::*;
-
-    /// Row 9 of document 01, with the bytes that docs/FORMAT.md works out.
-    #[test]
-    fn row_nine() {
-        let mut p = Problem::new();
-        let pick = p.predicate("p", 0);
-        let (x, y) = (p.function("x", 0), p.function("y", 0));
-        let pick = p.test(pick, &[]);
-        let (x, y) = (p.apply(x, &[]), p.apply(y, &[]));
-        let choice = p.choose(pick, x, y);
-        p.equal(choice, x);
-        let header = [0x45, 0x51, 0x50, 1, 0, 3, 5, 0, 16, 0, 0];
-        let nodes = [
-            [6, 0, 0, 0, 0, 0, 0, 0],
-            [0, 1, 0, 0, 0, 0, 0, 0],
-            [0, 2, 0, 0, 0, 0, 0, 0],
-            [1, 0, 0, 0, 1, 0, 2, 0],
-            [2, 0, 3, 0, 1, 0, 0, 0],
-        ];
-        assert_eq!(p.bytes(), [&header[..], &nodes.concat()].concat());
-        let witness = b"EQW\x01\x00\x03\0\0\0\0\0\x01\0\0\0\x01\x02\0\0\0\x02";
-        assert_eq!(p.explain(witness), "p = false, x = 1, y = 2");
-    }
-
-    #[test]
-    #[should_panic(expected = "the arity of f")]
-    fn wrong_arity() {
-        let mut p = Problem::new();
-        let f = p.function("f", 1);
-        p.apply(f, &[]);
     }
 }

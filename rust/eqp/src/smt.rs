@@ -73,6 +73,7 @@ fn meaning(problem: &Checked, node: &Node) -> String {
 #[cfg(test)]
 mod tests {
     use super::*;
+    use crate::problem::Problem;
     use crate::samples;
 
     /// Row 9, by hand.
@@ -89,5 +90,73 @@ mod tests {
             (define-fun n4 () Bool (= n3 n1))\n\
             (assert (not n4))\n(check-sat)\n(pop 1)\n";
         assert_eq!(job(&samples::row(9).bytes()).as_deref(), Ok(wanted));
+    }
+
+    /// Nodes of every op, and applications of every arity.
+    fn of_every_op() -> Problem {
+        let mut p = Problem::new();
+        let f: Vec<_> = (0..4).map(|arity| p.function("f", arity)).collect();
+        let q: Vec<_> = (0..4).map(|arity| p.predicate("q", arity)).collect();
+        let x = p.apply(f[0], &[]);
+        let fx = p.apply(f[1], &[x]);
+        let two = p.apply(f[2], &[x, fx]);
+        let three = p.apply(f[3], &[x, fx, two]);
+        let tests = [
+            p.test(q[0], &[]),
+            p.test(q[1], &[x]),
+            p.test(q[2], &[x, fx]),
+            p.test(q[3], &[two, fx, three]),
+        ];
+        let choice = p.choose(tests[0], x, fx);
+        let equation = p.equal(choice, three);
+        let not = p.not(equation);
+        let and = p.and(not, tests[3]);
+        let or = p.or(tests[2], and);
+        let (yes, no) = (p.yes(), p.no());
+        p.select(or, yes, no);
+        p
+    }
+
+    /// Their text, by hand.
+    #[test]
+    fn every_op() {
+        let wanted = "(push 1)\n\
+            (declare-fun s0 () V)\n\
+            (declare-fun s1 (V) V)\n\
+            (declare-fun s2 (V V) V)\n\
+            (declare-fun s3 (V V V) V)\n\
+            (declare-fun s4 () Bool)\n\
+            (declare-fun s5 (V) Bool)\n\
+            (declare-fun s6 (V V) Bool)\n\
+            (declare-fun s7 (V V V) Bool)\n\
+            (define-fun n0 () V s0)\n\
+            (define-fun n1 () V (s1 n0))\n\
+            (define-fun n2 () V (s2 n0 n1))\n\
+            (define-fun n3 () V (s3 n0 n1 n2))\n\
+            (define-fun n4 () Bool s4)\n\
+            (define-fun n5 () Bool (s5 n0))\n\
+            (define-fun n6 () Bool (s6 n0 n1))\n\
+            (define-fun n7 () Bool (s7 n2 n1 n3))\n\
+            (define-fun n8 () V (ite n4 n0 n1))\n\
+            (define-fun n9 () Bool (= n8 n3))\n\
+            (define-fun n10 () Bool (not n9))\n\
+            (define-fun n11 () Bool (and n10 n7))\n\
+            (define-fun n12 () Bool (or n6 n11))\n\
+            (define-fun n13 () Bool true)\n\
+            (define-fun n14 () Bool false)\n\
+            (define-fun n15 () Bool (ite n12 n13 n14))\n\
+            (assert (not n15))\n(check-sat)\n(pop 1)\n";
+        assert_eq!(job(&of_every_op().bytes()).as_deref(), Ok(wanted));
+    }
+
+    #[test]
+    fn refused() {
+        let refusal = job(b"EQP").expect_err("too short");
+        assert_eq!((refusal.number, refusal.place), (1, 0));
+    }
+
+    #[test]
+    fn preamble() {
+        assert_eq!(PREAMBLE, "(set-logic QF_UF)\n(declare-sort V 0)\n");
     }
 }

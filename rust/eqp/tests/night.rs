@@ -1,18 +1,27 @@
 //! The night run: document 01's sample, and the proved program against the reference.
 
-mod common;
+mod compared;
+mod counted;
+mod made;
 
 use std::env;
-use std::io::{self, Write};
+use std::io::Write;
 use std::path::{Path, PathBuf};
 use std::process::{Command, Stdio};
 use std::thread;
 
-use common::generate::{self, Shape};
-use common::refuse;
-use common::rng::Rng;
+use compared::notice::notice;
+use counted::facts::Facts;
+use counted::lines::{Line, ENDS, LINES};
+use counted::tally::Tally;
 use eqp::jobs::Jobs;
-use eqp::{reference, samples};
+use eqp::problem::Problem;
+use eqp::reference;
+use eqp::samples::{self, row, variables};
+use made::budgets::WIDE;
+use made::generate::{self, Shape};
+use made::refuse;
+use made::rng::Rng;
 
 /// How many jobs the stream has.
 const JOBS: usize = 10_000;
@@ -30,16 +39,13 @@ const SAMPLE: &str = "EQP NIGHT 1\n\
     JOB 4 REFUSED 1 0\n\
     END 4\n";
 
-#[test]
-fn sample_by_the_reference() {
-    let lines = reference::night(samples::sample_night().bytes());
-    assert_eq!(String::from_utf8_lossy(&lines), SAMPLE);
-    assert_eq!(reference::night(&[]), b"EQP NIGHT 1\nEND 0\n");
+fn text(lines: &[u8]) -> String {
+    String::from_utf8_lossy(lines).into_owned()
 }
 
-/// The sample ends after its jobs of 10 + 34, 10 + 75, 10 + 75 and 10 bytes, and nowhere else.
-#[test]
-fn cut_sample_by_the_reference() {
+/// The sample cut everywhere. It has jobs of 10 + 34, 10 + 75, 10 + 75 and 10 bytes, and ends
+/// after each of them and nowhere else.
+fn expect_cut_sample(night: impl Fn(&[u8]) -> Vec<u8>) {
     let jobs = samples::sample_night();
     let ends = [0, 44, 129, 214, 224];
     assert_eq!(jobs.bytes().len(), 224);
@@ -48,9 +54,57 @@ fn cut_sample_by_the_reference() {
         let word = if ends.contains(&length) { "END" } else { "CUT" };
         let first: Vec<_> = SAMPLE.lines().take(1 + whole).collect();
         let wanted = format!("{}\n{word} {whole}\n", first.join("\n"));
-        let lines = reference::night(&jobs.bytes()[..length]);
-        assert_eq!(String::from_utf8_lossy(&lines), wanted);
+        assert_eq!(text(&night(&jobs.bytes()[..length])), wanted);
     }
+}
+
+/// Jobs whose numbers use all their bytes or digits, and their lines: budgets that are ample while
+/// their low bits are not, the product of nineteen variables, a place of three digits, the longest
+/// job.
+fn long_numbers() -> Vec<(u64, Vec<u8>, &'static str)> {
+    let mut jobs = Vec::new();
+    for budget in WIDE {
+        jobs.push((budget, row(4).bytes(), "VALID 4 4"));
+        jobs.push((budget, row(6).bytes(), "FALSIFIED 4 4"));
+    }
+    let mut nineteen = Problem::new();
+    let x = variables(&mut nineteen, "x", 19);
+    for pair in x.windows(2) {
+        nineteen.equal(pair[0], pair[1]);
+    }
+    let nineteen = nineteen.bytes();
+    jobs.push((0, nineteen.clone(), "STOPPED 0 121645100408832000"));
+    jobs.push((300, nineteen, "STOPPED 300 121645100408832000"));
+    let mut truths = Problem::new();
+    for _ in 0..256 {
+        truths.yes();
+    }
+    let mut truths = truths.bytes();
+    jobs.push((1, truths.clone(), "VALID 1 1"));
+    truths[8 + 8 * 255] = 10;
+    jobs.push((1, truths, "REFUSED 7 255"));
+    jobs.push((1, vec![b'E'; 65_535], "REFUSED 2 0"));
+    jobs
+}
+
+fn expect_long_numbers(night: impl Fn(&[u8]) -> Vec<u8>) {
+    let mut jobs = Jobs::new();
+    let mut wanted = String::from("EQP NIGHT 1\n");
+    let all = long_numbers();
+    for (number, (budget, problem, line)) in (1..).zip(&all) {
+        jobs.push(*budget, problem);
+        wanted += &format!("JOB {number} {line}\n");
+    }
+    wanted += &format!("END {}\n", all.len());
+    assert_eq!(text(&night(jobs.bytes())), wanted);
+}
+
+#[test]
+fn sample_by_the_reference() {
+    let lines = reference::night(samples::sample_night().bytes());
+    assert_eq!(text(&lines), SAMPLE);
+    expect_cut_sample(reference::night);
+    expect_long_numbers(reference::night);
 }
 
 /// What starts the proved program; `None`, and a word about it, where that has not been made.
@@ -62,9 +116,7 @@ fn starter() -> Option<PathBuf> {
     }
     let absent = format!("{} is not there", program.display());
     assert!(env::var_os("CI").is_none(), "{absent}");
-    // Straight to the error stream: what print macros write is kept back from passing tests.
-    let message = format!("skipped: {absent}\n");
-    let _ = io::stderr().write_all(message.as_bytes());
+    notice(&format!("skipped: {absent}"));
     None
 }
 
@@ -86,59 +138,98 @@ fn run(starter: &Path, input: &[u8]) -> Vec<u8> {
     output.stdout
 }
 
-fn expect_same(starter: &Path, input: &[u8]) {
-    let (wanted, printed) = (reference::night(input), run(starter, input));
+/// The lines that both print for an input.
+fn expect_same(starter: &Path, input: &[u8]) -> Vec<String> {
+    expect_lines(&reference::night(input), &run(starter, input))
+}
+
+/// The lines, which must be the same to the last byte.
+fn expect_lines(wanted: &[u8], printed: &[u8]) -> Vec<String> {
+    let lines = |all: &[u8]| -> Vec<String> { text(all).lines().map(str::to_owned).collect() };
     if wanted != printed {
+        let (wanted, printed) = (lines(wanted), lines(printed));
         let same = wanted.iter().zip(&printed).take_while(|(a, b)| a == b);
-        let line = same.filter(|(&a, _)| a == b'\n').count();
-        let show = |all: &[u8]| {
-            let text = String::from_utf8_lossy(all).into_owned();
-            text.lines().nth(line).map(str::to_owned)
-        };
+        let line = same.count();
         panic!(
-            "line {line} of {} bytes: the reference prints {:?}, the program {:?}",
-            input.len(),
-            show(&wanted),
-            show(&printed)
+            "line {line}: the reference prints {:?}, the program {:?}",
+            wanted.get(line),
+            printed.get(line)
         );
     }
+    lines(printed)
 }
 
-/// Jobs of all kinds, and where each ends.
-fn stream(rng: &mut Rng) -> (Jobs, Vec<usize>) {
-    let mut jobs = Jobs::new();
-    let mut ends = vec![0];
-    for _ in 0..JOBS {
-        let budget = rng.below(300) as u64;
-        jobs.push(budget, &job(rng));
-        ends.push(jobs.bytes().len());
-    }
-    (jobs, ends)
+#[test]
+#[should_panic(
+    expected = "line 1: the reference prints Some(\"END 0\"), the program Some(\"END 1\")"
+)]
+fn another_line() {
+    expect_lines(b"EQP NIGHT 1\nEND 0\n", b"EQP NIGHT 1\nEND 1\n");
 }
 
-fn job(rng: &mut Rng) -> Vec<u8> {
+#[test]
+#[should_panic(expected = "line 2: the reference prints None, the program None")]
+fn no_line_feed() {
+    expect_lines(b"EQP NIGHT 1\nEND 0\n", b"EQP NIGHT 1\nEND 0");
+}
+
+/// A problem, and a budget: a wide one only where no walk can be long, whatever the verdict.
+fn job(rng: &mut Rng) -> (u64, Vec<u8>) {
     let shape = match rng.below(20) {
         0 => Shape::large(rng),
         _ => Shape::small(rng),
     };
-    let problem = generate::problem(rng, shape).bytes();
-    match rng.below(24) {
-        number @ 1..=8 => refuse::edit(rng, number as u8, &problem).0,
-        9 => refuse::many_functions(rng),
-        10 => refuse::many_predicates(rng),
-        11 => refuse::many_places(rng),
-        12 if rng.once_in(20) => vec![b'E'; rng.within(2_000, 65_535)],
-        _ => problem,
-    }
+    let whole = generate::problem(rng, shape).bytes();
+    let short = Facts::of(&whole).most_places() <= 5_040;
+    let (problem, refused) = match rng.below(24) {
+        number @ 1..=8 => (refuse::edit(rng, number as u8, &whole).0, true),
+        9 => (refuse::many_functions(rng), true),
+        10 => (refuse::many_predicates(rng), true),
+        11 => (refuse::many_places(rng), true),
+        12 if rng.once_in(20) => (vec![b'E'; rng.within(2_000, 65_535)], true),
+        _ => (whole, false),
+    };
+    let budget = match rng.below(3) {
+        0 if short || refused => *rng.pick(&WIDE),
+        1 => rng.below(8) as u64,
+        _ => rng.below(300) as u64,
+    };
+    (budget, problem)
 }
 
 #[test]
 fn sample_by_the_program() {
     if let Some(starter) = starter() {
-        let lines = run(&starter, samples::sample_night().bytes());
-        assert_eq!(String::from_utf8_lossy(&lines), SAMPLE);
-        expect_same(&starter, &[]);
+        let night = |input: &[u8]| run(&starter, input);
+        assert_eq!(text(&night(samples::sample_night().bytes())), SAMPLE);
+        expect_cut_sample(night);
+        expect_long_numbers(night);
         expect_same(&starter, samples::feedback_tap().bytes());
+    }
+}
+
+/// Counts the lines of a whole stream.
+fn count_lines(stream: &[(u64, Vec<u8>)], printed: &[String]) {
+    let mut tally = Tally::new(LINES);
+    assert_eq!(printed.len(), 1 + stream.len() + 1);
+    for (i, (budget, problem)) in stream.iter().enumerate() {
+        let line = &printed[1 + i];
+        tally.add(&Line::read(1 + i, *budget, problem.len(), line));
+    }
+    println!("{tally}");
+    tally.expect_enough();
+}
+
+/// Where to cut a run of jobs: near its start, close to the end of a job, or anywhere.
+fn cut(rng: &mut Rng, way: usize, ends: &[usize]) -> usize {
+    let (first, last) = (ends[0], ends[ends.len() - 1]);
+    match way {
+        0 => first + rng.below(20),
+        1 => *rng.pick(ends),
+        2 => rng.pick(&ends[1..]) - 1,
+        3 => (rng.pick(ends) + rng.within(1, 10)).min(last),
+        4 => first,
+        _ => rng.within(first, last),
     }
 }
 
@@ -149,24 +240,29 @@ fn stream_by_the_program() {
         None => return,
     };
     let mut rng = Rng::new(2);
-    let (jobs, ends) = stream(&mut rng);
-    let whole = jobs.bytes();
-    expect_same(&starter, whole);
-    for _ in 0..WHOLE_CUTS {
-        expect_same(&starter, &whole[..rng.below(whole.len())]);
+    let stream: Vec<_> = (0..JOBS).map(|_| job(&mut rng)).collect();
+    let (mut jobs, mut ends) = (Jobs::new(), vec![0]);
+    for (budget, problem) in &stream {
+        jobs.push(*budget, problem);
+        ends.push(jobs.bytes().len());
     }
-    for cut in 0..CUTS {
-        // From some job on: cut near the start, close to the end of a job, or anywhere.
+    let whole = jobs.bytes();
+    count_lines(&stream, &expect_same(&starter, whole));
+    let mut tally = Tally::new(ENDS);
+    let mut expect_end = |input: &[u8]| {
+        let printed = expect_same(&starter, input);
+        let (word, count) = printed[printed.len() - 1].split_once(' ').expect("the end");
+        tally.add(&(word.to_owned(), count.parse().expect("a decimal number")));
+    };
+    for _ in 0..WHOLE_CUTS {
+        expect_end(&whole[..rng.below(whole.len())]);
+    }
+    for i in 0..CUTS {
         let from = rng.below(JOBS - WINDOW);
         let ends = &ends[from..=from + WINDOW];
-        let (first, last) = (ends[0], ends[WINDOW]);
-        let end = match cut % 5 {
-            0 => first + rng.below(20),
-            1 => *rng.pick(ends),
-            2 => rng.pick(&ends[1..]) - 1,
-            3 => (rng.pick(ends) + rng.within(1, 10)).min(last),
-            _ => rng.within(first, last),
-        };
-        expect_same(&starter, &whole[first..end]);
+        let end = cut(&mut rng, i % 6, ends);
+        expect_end(&whole[ends[0]..end]);
     }
+    println!("{tally}");
+    tally.expect_enough();
 }

@@ -2,66 +2,23 @@
 //!
 //! Every value here is from the paper or from docs/FORMAT.md, or worked by hand from them.
 
+mod compared;
+mod made;
+
 use std::thread;
 
+use compared::both::{
+    call, expect, expect_table, expect_witness, falsified, refused, stopped, valid,
+};
+use compared::both::{Call, BOTH, FILL};
 use eqp::problem::{Formula, Problem, Term};
 use eqp::samples::{self, row, variables};
-use eqp::{host, reference, workloads, Answer, WITNESS_LEN, WORK_LEN};
+use eqp::{host, workloads, Answer, WITNESS_LEN, WORK_LEN};
+use made::budgets::WIDE;
 
-type Decide = fn(u64, &[u8], &mut [u8], &mut [u8]) -> Answer;
-
-const BOTH: [(&str, Decide); 2] = [("library", host::decide), ("reference", reference::decide)];
-
-/// What the buffers hold before a call, to see what stays.
-const FILL: u8 = 0xaa;
-
-/// A call with buffers that are longer than they need be.
-struct Call {
-    answer: Answer,
-    work: Vec<u8>,
-    witness: Vec<u8>,
-}
-
-fn call(decide: Decide, budget: u64, problem: &Problem) -> Call {
-    let mut work = vec![FILL; WORK_LEN + 8];
-    let mut witness = vec![FILL; WITNESS_LEN + 8];
-    let answer = decide(budget, &problem.bytes(), &mut work, &mut witness);
-    Call {
-        answer,
-        work,
-        witness,
-    }
-}
-
-/// Both sides must give this answer.
-fn expect(problem: &Problem, budget: u64, wanted: Answer) {
-    for (name, decide) in BOTH {
-        assert_eq!(call(decide, budget, problem).answer, wanted, "{name}");
-    }
-}
-
-fn valid(tried: u64) -> Answer {
-    Answer::Valid {
-        tried,
-        product: tried,
-    }
-}
-
-fn falsified(tried: u64, product: u64, rows: usize) -> Answer {
-    Answer::Falsified {
-        tried,
-        product,
-        witness_len: 6 + 5 * rows,
-    }
-}
-
-fn refused(number: u8) -> Answer {
-    Answer::Refused { number, place: 0 }
-}
-
-#[test]
-fn twelve_rows() {
-    let wanted = [
+/// The twelve rows with an ample budget.
+fn twelve() -> [Answer; 12] {
+    [
         valid(1),
         falsified(2, 2, 2),
         falsified(1, 2, 2),
@@ -74,35 +31,30 @@ fn twelve_rows() {
         valid(1),
         falsified(1, 1, 0),
         falsified(1, 4, 4),
-    ];
-    for (number, wanted) in (1..).zip(wanted) {
-        expect(&row(number), u64::MAX, wanted);
+    ]
+}
+
+/// All budgets here are ample, while some low bits of each are not.
+#[test]
+fn twelve_rows() {
+    for (number, wanted) in (1..).zip(twelve()) {
+        for budget in WIDE {
+            expect(&row(number), budget, wanted);
+        }
     }
 }
 
 #[test]
 fn budgets() {
-    let stopped = |tried| Answer::Stopped { tried, product: 4 };
-    expect(&row(4), 0, stopped(0));
-    expect(&row(4), 3, stopped(3));
+    expect(&row(4), 0, stopped(0, 4));
+    expect(&row(4), 3, stopped(3, 4));
     expect(&row(4), 4, valid(4));
     expect(&row(4), 5, valid(4));
-    expect(&row(6), 0, stopped(0));
-    expect(&row(6), 3, stopped(3));
+    expect(&row(6), 0, stopped(0, 4));
+    expect(&row(6), 3, stopped(3, 4));
     expect(&row(6), 4, falsified(4, 4, 4));
-    expect(&row(5), 1, stopped(1));
+    expect(&row(5), 1, stopped(1, 4));
     expect(&row(5), 2, falsified(2, 4, 4));
-}
-
-/// The work buffer: the table's bytes, and past them nothing changed. The witness stays.
-fn expect_table(problem: &Problem, budget: u64, wanted: &[[u8; 8]]) {
-    for (name, decide) in BOTH {
-        let Call { work, witness, .. } = call(decide, budget, problem);
-        let (table, rest) = work.split_at(8 * wanted.len());
-        assert_eq!(table, wanted.concat(), "{name}");
-        assert!(rest.iter().all(|&byte| byte == FILL), "{name}");
-        assert!(witness.iter().all(|&byte| byte == FILL), "{name}");
-    }
 }
 
 /// Row 4's ten nodes.
@@ -124,17 +76,6 @@ fn row_four_table() {
     expect_table(&row(4), 4, &wanted);
 }
 
-/// The witness bytes, and past them nothing changed.
-fn expect_witness(problem: &Problem, wanted: &[u8], words: &str) {
-    for (name, decide) in BOTH {
-        let Call { witness, .. } = call(decide, u64::MAX, problem);
-        let (written, rest) = witness.split_at(wanted.len());
-        assert_eq!(written, wanted, "{name}");
-        assert!(rest.iter().all(|&byte| byte == FILL), "{name}");
-        assert_eq!(problem.explain(&witness), words, "{name}");
-    }
-}
-
 #[test]
 fn witnesses() {
     let five = b"EQW\x01\x00\x04\
@@ -151,15 +92,101 @@ fn witnesses() {
     expect_witness(&row(11), b"EQW\x01\x00\x00", "");
 }
 
+/// Not x = y, or z = f(x), or p(f(y)).
+fn image_and_own_variable() -> Problem {
+    let mut p = Problem::new();
+    let (x, y, z) = (p.function("x", 0), p.function("y", 0), p.function("z", 0));
+    let (f, q) = (p.function("f", 1), p.predicate("p", 1));
+    let (x, y) = (p.apply(x, &[]), p.apply(y, &[]));
+    let same = p.equal(x, y);
+    let apart = p.not(same);
+    let (z, fx) = (p.apply(z, &[]), p.apply(f, &[x]));
+    let image = p.equal(z, fx);
+    let either = p.or(apart, image);
+    let fy = p.apply(f, &[y]);
+    let test = p.test(q, &[fy]);
+    p.or(either, test);
+    p
+}
+
+/// Not x = y, or z = f(x), or p(f(y)), worked by hand.
+///
+/// The variables are x, y, z, f(x) and f(y), by number; nodes 2 and 9 of the table link x with y,
+/// node 6 links z with f(x), and f(y) is alone: the tops are 1, 2, 1, 2 and 1, and with p there
+/// are 8 places. Digits move in the order y, f(x), p.
+/// - Place 1: all are 1, so z = f(x).
+/// - Place 2: y is 2, so not x = y.
+/// - Place 3: y is 1 again, f(x) is 2 and p false. x = y, z and f(x) differ, p is false: falsified.
+///
+/// There f(y)'s own variable, node 8, is 1. Its image, node 10, is f(x)'s variable where y = x,
+/// so 2, both as the value of f(y) and as the argument of p.
+#[test]
+fn rows_list_the_images() {
+    let p = image_and_own_variable();
+    let table = [
+        [0, 0, 0, 0, 0, 0, 0, 0],  //  0 x
+        [0, 1, 0, 0, 0, 0, 0, 0],  //  1 y
+        [2, 0, 0, 0, 1, 0, 0, 0],  //  2 x = y
+        [3, 0, 2, 0, 0, 0, 0, 0],  //  3 not 2
+        [0, 2, 0, 0, 0, 0, 0, 0],  //  4 z
+        [0, 3, 0, 0, 0, 0, 0, 0],  //  5 f(x)
+        [2, 0, 4, 0, 5, 0, 0, 0],  //  6 z = f(x)
+        [5, 0, 3, 0, 6, 0, 0, 0],  //  7 3 or 6
+        [0, 4, 0, 0, 0, 0, 0, 0],  //  8 f(y), its own
+        [2, 0, 1, 0, 0, 0, 0, 0],  //  9 y = x
+        [1, 0, 9, 0, 5, 0, 8, 0],  // 10 f(y)
+        [6, 0, 0, 0, 0, 0, 0, 0],  // 11 p(f(y))
+        [5, 0, 7, 0, 11, 0, 0, 0], // 12 7 or 11
+    ];
+    expect_table(&p, 2, &table);
+    expect(&p, 2, stopped(2, 8));
+    expect(&p, 3, falsified(3, 8, 6));
+    let witness = b"EQW\x01\x00\x06\
+        \x00\x00\x00\x00\x01\
+        \x01\x00\x00\x00\x01\
+        \x02\x00\x00\x00\x01\
+        \x03\x01\x00\x00\x02\
+        \x03\x01\x00\x00\x02\
+        \x04\x02\x00\x00\x00";
+    let words = "x = 1, y = 1, z = 1, f(1) = 2, f(1) = 2, p(2) = false";
+    expect_witness(&p, witness, words);
+}
+
+/// Not x = y, or not q(x), or not q(y), worked by hand: y has the top 2 and there are two truth
+/// variables, so 8 places, and the digits move in the order y, q(x), q(y). At place 1 q(x) is
+/// false, at place 2 y is 2. At place 3 y is 1 and q(x) true; q(y)'s own variable is false, but
+/// its image is q(x)'s where y = x, so true: falsified.
+#[test]
+fn rows_list_the_images_of_predicates() {
+    let mut p = Problem::new();
+    let (x, y) = (p.function("x", 0), p.function("y", 0));
+    let q = p.predicate("q", 1);
+    let (x, y) = (p.apply(x, &[]), p.apply(y, &[]));
+    let same = p.equal(x, y);
+    let apart = p.not(same);
+    let qx = p.test(q, &[x]);
+    let left = p.not(qx);
+    let either = p.or(apart, left);
+    let qy = p.test(q, &[y]);
+    let right = p.not(qy);
+    p.or(either, right);
+    expect(&p, 2, stopped(2, 8));
+    expect(&p, 3, falsified(3, 8, 4));
+    let witness = b"EQW\x01\x00\x04\
+        \x00\x00\x00\x00\x01\
+        \x01\x00\x00\x00\x01\
+        \x02\x01\x00\x00\x01\
+        \x02\x01\x00\x00\x01";
+    expect_witness(&p, witness, "x = 1, y = 1, q(1) = true, q(1) = true");
+}
+
 #[test]
 fn document_004() {
-    expect(&samples::ackermann(), u64::MAX, valid(36));
+    for budget in WIDE {
+        expect(&samples::ackermann(), budget, valid(36));
+    }
     expect(&samples::ackermann(), 36, valid(36));
-    let stopped = Answer::Stopped {
-        tried: 35,
-        product: 36,
-    };
-    expect(&samples::ackermann(), 35, stopped);
+    expect(&samples::ackermann(), 35, stopped(35, 36));
 }
 
 /// Variables joined by equations: x1 = x2, or x2 = x3, and so on.
@@ -181,11 +208,7 @@ fn any_equal(p: &mut Problem, terms: &[Term]) -> Formula {
 
 #[test]
 fn nineteen_and_twenty_variables() {
-    let taken = Answer::Stopped {
-        tried: 0,
-        product: 121_645_100_408_832_000,
-    };
-    expect(&joined(19), 0, taken);
+    expect(&joined(19), 0, stopped(0, 121_645_100_408_832_000));
     expect(&joined(20), 0, refused(13));
     expect(&joined(20), u64::MAX, refused(13));
 }
@@ -228,6 +251,7 @@ fn many_predicates() {
         p
     };
     expect(&tests(16), u64::MAX, falsified(1, 65_536, 16));
+    expect(&tests(16), 0, stopped(0, 65_536));
     expect(&tests(17), u64::MAX, refused(10));
 }
 
@@ -235,7 +259,7 @@ fn many_predicates() {
 #[test]
 fn largest_table() {
     for (name, decide) in BOTH {
-        let Call { answer, work, .. } = call(decide, 1, &workloads::largest());
+        let Call { answer, work, .. } = call(decide, 1, &workloads::largest().bytes());
         assert_eq!(answer, refused(13), "{name}");
         let (table, rest) = work.split_at(8 * 2_494);
         assert!(table.chunks(8).all(|node| node[0] <= 9), "{name}");
@@ -258,27 +282,4 @@ fn small_stack() {
     let thread = thread::Builder::new().stack_size(128 << 10);
     let thread = thread.spawn(decide_all).expect("the thread starts");
     thread.join().expect("the thread ends");
-}
-
-/// Only a buffer that is too short is refused, in order, and nothing is written.
-#[test]
-fn short_buffers() {
-    let cases = [
-        (WORK_LEN, WITNESS_LEN, falsified(2, 4, 4)),
-        (WORK_LEN - 1, WITNESS_LEN, refused(11)),
-        (WORK_LEN, WITNESS_LEN - 1, refused(12)),
-        (0, 0, refused(11)),
-        (WORK_LEN, 0, refused(12)),
-    ];
-    for (name, decide) in BOTH {
-        for (work_len, witness_len, wanted) in cases {
-            let (mut work, mut witness) = (vec![FILL; work_len], vec![FILL; witness_len]);
-            let answer = decide(9, &row(5).bytes(), &mut work, &mut witness);
-            assert_eq!(answer, wanted, "{name}");
-            if matches!(answer, Answer::Refused { .. }) {
-                let mut all = work.iter().chain(&witness);
-                assert!(all.all(|&byte| byte == FILL), "{name}");
-            }
-        }
-    }
 }

@@ -2,7 +2,6 @@
 //!
 //! Ratios are the reference's time over the library's: above 1 the library is the faster one.
 
-use std::hint::black_box;
 use std::io::{self, Write};
 use std::process::{Command, Stdio};
 use std::thread;
@@ -21,11 +20,13 @@ const JOBS: usize = 100_000;
 
 type Decide = fn(u64, &[u8], &mut [u8], &mut [u8]) -> Answer;
 
-/// The buffers of one side.
+/// One side: its buffers, and the places of all timed answers. They are compared in the end, so
+/// that no walk is left out because nobody looks at its answer.
 struct Side {
     decide: Decide,
     work: Vec<u8>,
     witness: Vec<u8>,
+    tried: u64,
 }
 
 impl Side {
@@ -34,24 +35,29 @@ impl Side {
             decide,
             work: vec![0; WORK_LEN],
             witness: vec![0; WITNESS_LEN],
+            tried: 0,
         }
     }
 
     fn decide(&mut self, budget: u64, problem: &[u8]) -> Answer {
-        let answer = (self.decide)(
-            budget,
-            black_box(problem),
-            &mut self.work,
-            &mut self.witness,
-        );
-        black_box(answer)
+        (self.decide)(budget, problem, &mut self.work, &mut self.witness)
+    }
+
+    fn count(&mut self, answer: Answer) {
+        self.tried += match answer {
+            Answer::Refused { .. } => 0,
+            Answer::Valid { tried, .. }
+            | Answer::Falsified { tried, .. }
+            | Answer::Stopped { tried, .. } => tried,
+        };
     }
 
     /// The time of so many walks.
     fn time(&mut self, workload: &Workload, walks: u64) -> Duration {
         let start = Instant::now();
         for _ in 0..walks {
-            self.decide(workload.budget, &workload.problem);
+            let answer = self.decide(workload.budget, &workload.problem);
+            self.count(answer);
         }
         start.elapsed()
     }
@@ -60,7 +66,8 @@ impl Side {
     fn time_jobs(&mut self, jobs: &[Vec<u8>]) -> Duration {
         let start = Instant::now();
         for job in jobs {
-            self.decide(u64::MAX, job);
+            let answer = self.decide(u64::MAX, job);
+            self.count(answer);
         }
         start.elapsed()
     }
@@ -73,6 +80,7 @@ fn main() {
     bench_jobs(&mut library, &mut reference);
     let mean = ratios.iter().map(|ratio| ratio.ln()).sum::<f64>() / ratios.len() as f64;
     println!("geometric mean {:.2}", mean.exp());
+    assert_eq!(library.tried, reference.tried);
 }
 
 /// Prints a line for each table, and gives the ratios.
@@ -180,7 +188,8 @@ fn bench_z3(reference: &mut Side, jobs: &[Vec<u8>]) -> io::Result<f64> {
     if output.lines().eq(wanted) {
         Ok(time)
     } else {
-        Err(io::Error::other("its verdicts are not ours"))
+        let kind = io::ErrorKind::InvalidData;
+        Err(io::Error::new(kind, "its verdicts are not ours"))
     }
 }
 
@@ -195,5 +204,6 @@ fn run_z3(script: String) -> io::Result<String> {
     let writer = thread::spawn(move || input.write_all(script.as_bytes()));
     let output = z3.wait_with_output()?;
     writer.join().expect("the writer does not panic")?;
-    String::from_utf8(output.stdout).map_err(io::Error::other)
+    let invalid = |error| io::Error::new(io::ErrorKind::InvalidData, error);
+    String::from_utf8(output.stdout).map_err(invalid)
 }

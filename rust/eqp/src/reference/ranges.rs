@@ -16,48 +16,62 @@ pub struct Ranges {
 impl Ranges {
     /// The ranges of a problem's table.
     pub fn new(problem: &Checked, table: &Table) -> Self {
-        let components = components(problem.functions, table);
-        let mut tops = vec![0; problem.functions];
-        for &component in &components {
-            let members = (0..problem.functions).filter(|v| component >> v & 1 == 1);
-            for (rank, variable) in (1..).zip(members) {
-                tops[variable] = rank;
+        let classes = components(problem.functions, table);
+        let rank = |v: usize| classes[..=v].iter().filter(|&&c| c == classes[v]).count();
+        let tops: Vec<u8> = (0..problem.functions).map(|v| rank(v) as u8).collect();
+        let variables: u128 = tops.iter().map(|&top| u128::from(top)).product();
+        let truths: u128 = (0..problem.predicates).map(|_| 2).product();
+        Self {
+            tops,
+            product: variables * truths,
+        }
+    }
+}
+
+/// For each variable the name of its component; joined variables have the same name.
+fn components(variables: usize, table: &Table) -> Vec<usize> {
+    let mut classes: Vec<usize> = (0..variables).collect();
+    let leaves = leaves(table);
+    for equation in table.nodes.iter().filter(|node| node.op == Op::Equal) {
+        let [left, right, _] = equation.indices();
+        for &u in &leaves[left] {
+            for &v in &leaves[right] {
+                link(&mut classes, u, v);
             }
         }
-        let variables: u128 = tops.iter().map(|&top| u128::from(top)).product();
-        let product = variables << problem.predicates;
-        Self { tops, product }
     }
+    classes
 }
 
-/// The components, each a set of variables as bits: classes that are joined by no equation.
-fn components(variables: usize, table: &Table) -> Vec<u32> {
-    let mut components: Vec<u32> = (0..variables).map(|v| 1 << v).collect();
-    let mut leaves = vec![0_u32; table.nodes.len()];
-    for (i, node) in table.nodes.iter().enumerate() {
-        let [a, b, c] = node.indices();
-        match node.op {
-            Op::Apply => leaves[i] = 1 << node.symbol,
-            Op::Choose => leaves[i] = leaves[b] | leaves[c],
-            Op::Equal => join(&mut components, leaves[a] | leaves[b]),
-            _ => {}
-        }
+/// For each node its leaves, in no order and each once: without that, choices of choices would
+/// double the list again and again.
+fn leaves(table: &Table) -> Vec<Vec<usize>> {
+    let mut leaves: Vec<Vec<usize>> = Vec::with_capacity(table.nodes.len());
+    for node in &table.nodes {
+        let [_, second, third] = node.indices();
+        leaves.push(match node.op {
+            Op::Apply => vec![usize::from(node.symbol)],
+            Op::Choose => {
+                let mut both = leaves[second].clone();
+                let more = leaves[third].iter().filter(|leaf| !both.contains(leaf));
+                let more: Vec<_> = more.copied().collect();
+                both.extend(more);
+                both
+            }
+            _ => Vec::new(),
+        });
     }
-    components
+    leaves
 }
 
-/// Makes one component of all that share a variable with `linked`. Both sides of an equation
-/// have leaves, so linking each left leaf with each right one joins them all.
-fn join(components: &mut Vec<u32>, linked: u32) {
-    let mut joined = 0;
-    components.retain(|&component| {
-        let apart = component & linked == 0;
-        if !apart {
-            joined |= component;
+/// Makes one component of those of two variables: all that have v's name take u's.
+fn link(classes: &mut [usize], u: usize, v: usize) {
+    let (to, from) = (classes[u], classes[v]);
+    if to != from {
+        for class in classes.iter_mut().filter(|class| **class == from) {
+            *class = to;
         }
-        apart
-    });
-    components.push(joined);
+    }
 }
 
 #[cfg(test)]
@@ -92,5 +106,27 @@ mod tests {
         assert_eq!(ranges(&p), (vec![1, 1, 2, 2], 4));
         p.equal(x[3], x[1]);
         assert_eq!(ranges(&p), (vec![1, 2, 3, 4], 24));
+    }
+
+    /// A choice has the leaves of its second and third operands, not of its first, and an equation
+    /// links left with right alone: choice(u = v, x, y) = z joins x, y and z; u and v are apart.
+    #[test]
+    fn leaves_of_a_choice() {
+        let mut p = Problem::new();
+        let [u, v, x, y, z] = ["u", "v", "x", "y", "z"].map(|name| p.function(name, 0));
+        let [u, v, x, y, z] = [u, v, x, y, z].map(|variable| p.apply(variable, &[]));
+        let condition = p.equal(u, v);
+        let choice = p.choose(condition, x, y);
+        p.equal(choice, choice);
+        assert_eq!(ranges(&p), (vec![1, 2, 1, 2, 1], 4));
+        p.equal(choice, z);
+        assert_eq!(ranges(&p), (vec![1, 2, 1, 2, 3], 12));
+    }
+
+    /// Truth variables double the product.
+    #[test]
+    fn truth_variables() {
+        let three = samples::three_tests();
+        assert_eq!(ranges(&three), (vec![1, 2], 16));
     }
 }

@@ -4,8 +4,8 @@ use eqp::problem::Problem;
 use eqp::samples::variables;
 
 use super::generate::{Growing, Shape};
-use super::replay::{arity, nodes};
 use super::rng::Rng;
+use crate::compared::replay::{arity, nodes};
 
 /// An edit of a well-formed problem that is refused by `number`, 1 to 8; and the place.
 pub fn edit(rng: &mut Rng, number: u8, problem: &[u8]) -> (Vec<u8>, u64) {
@@ -160,7 +160,7 @@ pub fn many_functions(rng: &mut Rng) -> Vec<u8> {
     for i in 0..rng.within(25, 60) - x.len() {
         terms.push(p.apply(f, &[x[i % x.len()], terms[i]]));
     }
-    for _ in 0..rng.below(20) {
+    for _ in 0..rng.below(40) {
         p.test(q, &[*rng.pick(&terms)]);
     }
     p.yes();

@@ -1,14 +1,16 @@
 //! Calls of both sides with the same bytes in and around every buffer.
 
-use eqp::{host, reference, Answer, ANSWER_LEN, WITNESS_LEN, WORK_LEN};
+use eqp::{host, Answer, ANSWER_LEN, WITNESS_LEN, WORK_LEN};
 
-use super::rng::Rng;
+use super::both::Decide;
+use super::effects::expect_effects;
+use crate::made::rng::Rng;
 
 /// How many bytes stand on each side of a lent slice, less up to 7 on the left.
 const GUARD: usize = 24;
 
 /// The lengths of the lent buffers.
-#[derive(Clone, Copy, Debug)]
+#[derive(Clone, Copy, Debug, PartialEq, Eq)]
 pub struct Lengths {
     pub work: usize,
     pub witness: usize,
@@ -88,6 +90,27 @@ impl Buffers {
         }
         self.0[0].slice().copy_from_slice(problem);
     }
+
+    /// The reference's answer, written as the library writes its own; `None` where the answer
+    /// buffer is too short.
+    fn ask(&mut self, budget: u64, reference: Decide) -> Option<Answer> {
+        let [problem, work, witness, answer] = &mut self.0;
+        let decided = (answer.length >= ANSWER_LEN)
+            .then(|| reference(budget, problem.slice(), work.slice(), witness.slice()))?;
+        answer.slice()[..ANSWER_LEN].copy_from_slice(&host::encode(&decided));
+        Some(decided)
+    }
+
+    fn lend(&mut self, budget: u64, library: Raw) -> u32 {
+        let [problem, work, witness, answer] = &mut self.0;
+        library(
+            budget,
+            problem.slice(),
+            work.slice(),
+            witness.slice(),
+            answer.slice(),
+        )
+    }
 }
 
 /// What a call did, by the reference.
@@ -100,25 +123,33 @@ pub struct Done<'a> {
     pub witness: (&'a [u8], &'a [u8]),
 }
 
+/// The library's own call, or what a test puts in its place.
+pub type Raw = fn(u64, &[u8], &mut [u8], &mut [u8], &mut [u8]) -> u32;
+
 /// Both sides, and the noise that their buffers start from.
 pub struct Lender {
+    reference: Decide,
+    library: Raw,
     noise: Vec<u8>,
     ours: Buffers,
     theirs: Buffers,
 }
 
 impl Lender {
-    pub fn new(rng: &mut Rng) -> Self {
+    pub fn new(rng: &mut Rng, reference: Decide, library: Raw) -> Self {
         let noise = (0..80_000).map(|_| rng.next() as u8).collect();
         let buffers = Buffers(std::array::from_fn(|_| Lent::empty()));
         Self {
+            reference,
+            library,
             noise,
             ours: buffers.clone(),
             theirs: buffers,
         }
     }
 
-    /// Calls both sides and compares what they return and every byte in and around the buffers.
+    /// Calls both sides, compares what they return and every byte in and around the buffers, and
+    /// holds the effects against document 01.
     pub fn call(
         &mut self,
         rng: &mut Rng,
@@ -129,18 +160,20 @@ impl Lender {
         let at = rng.below(1_000);
         self.ours.refill(&self.noise, at, problem, lengths);
         self.theirs.refill(&self.noise, at, problem, lengths);
-        let answer = by_reference(budget, &mut self.ours);
-        let returned = by_library(budget, &mut self.theirs);
+        let answer = self.ours.ask(budget, self.reference);
+        let returned = self.theirs.lend(budget, self.library);
         if returned != u32::from(answer.is_some()) || self.ours != self.theirs {
             self.differ(budget, lengths, answer, returned);
         }
         let before = |length: usize| &self.noise[at + GUARD - at % 8..][..length];
         let [_, work, witness, _] = &mut self.ours.0;
-        Done {
+        let done = Done {
             answer,
             work: (before(lengths.work), work.slice()),
             witness: (before(lengths.witness), witness.slice()),
-        }
+        };
+        expect_effects(problem, &done);
+        done
     }
 
     fn differ(&mut self, budget: u64, lengths: Lengths, answer: Option<Answer>, returned: u32) {
@@ -159,23 +192,4 @@ impl Lender {
              the library returns {returned} with {theirs:?}"
         );
     }
-}
-
-fn by_reference(budget: u64, buffers: &mut Buffers) -> Option<Answer> {
-    let [problem, work, witness, answer] = &mut buffers.0;
-    let decided = (answer.length >= ANSWER_LEN)
-        .then(|| reference::decide(budget, problem.slice(), work.slice(), witness.slice()))?;
-    answer.slice()[..ANSWER_LEN].copy_from_slice(&host::encode(&decided));
-    Some(decided)
-}
-
-fn by_library(budget: u64, buffers: &mut Buffers) -> u32 {
-    let [problem, work, witness, answer] = &mut buffers.0;
-    host::raw_decide(
-        budget,
-        problem.slice(),
-        work.slice(),
-        witness.slice(),
-        answer.slice(),
-    )
 }

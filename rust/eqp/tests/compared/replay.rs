@@ -44,13 +44,15 @@ pub fn is_true(problem: &[u8], mut meaning: impl FnMut(u8, &[u64]) -> u64) -> bo
 
 /// Whether the formula is true by a witness's tables; what no row lists is 0 or false.
 pub fn is_true_by(problem: &[u8], witness: &[u8]) -> bool {
-    assert_eq!(witness[..5], *b"EQW\x01\x00");
+    assert_eq!(witness[..5], *b"EQW\x01\x00", "the witness's start");
     let rows: Vec<&[u8]> = witness[6..].chunks(5).collect();
-    assert_eq!(rows.len(), usize::from(witness[5]));
+    assert_eq!(rows.len(), usize::from(witness[5]), "the count of rows");
     for row in &rows {
         let same = |other: &&&[u8]| other[..4] == row[..4];
-        assert!(rows.iter().filter(same).all(|other| other[4] == row[4]));
-        assert!(row[1 + arity(problem, row[0])..4].iter().all(|&b| b == 0));
+        let mut alike = rows.iter().filter(same);
+        assert!(alike.all(|other| other[4] == row[4]), "two values");
+        let mut unused = row[1 + arity(problem, row[0])..4].iter();
+        assert!(unused.all(|&value| value == 0), "an unused argument");
     }
     is_true(problem, |symbol, arguments| {
         let listed = |row: &&&[u8]| {

@@ -1,10 +1,10 @@
-//! What the generated tests share.
+//! The problems and budgets that the tests make.
 
 #![allow(dead_code)] // No test uses all of it.
 
+pub mod budgets;
+pub mod fields;
 pub mod generate;
-pub mod lend;
 pub mod limits;
 pub mod refuse;
-pub mod replay;
 pub mod rng;

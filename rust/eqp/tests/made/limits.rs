@@ -4,21 +4,29 @@ use eqp::problem::{Formula, Problem, Term};
 use eqp::samples::variables;
 use eqp::workloads;
 
+use super::fields;
+
 /// The largest product that is not refused.
 const MOST_PLACES: u128 = 1_000_000_000_000_000_000;
 
 /// A problem, and the refusal number and place that it must get if any.
 pub type Case = (Vec<u8>, Option<(u8, u64)>);
 
-/// All of them.
-pub fn cases() -> Vec<Case> {
-    let mut cases = counts();
-    cases.extend(symbols());
-    cases.extend(nodes());
-    cases.extend(applications());
-    cases.extend(products());
-    cases.push((workloads::largest().bytes(), Some((13, 0))));
-    cases
+/// All of them, by what they are the limits of.
+pub fn groups() -> [(&'static str, Vec<Case>); 9] {
+    let all = all_products();
+    let largest = (workloads::largest().bytes(), Some((13, 0)));
+    [
+        ("counts", counts()),
+        ("symbols", symbols()),
+        ("nodes", nodes()),
+        ("fields", fields::cases()),
+        ("applications", applications()),
+        ("products", products(&all)),
+        ("wrapped products", wrapped(&all)),
+        ("arrays", arrays()),
+        ("tables", vec![largest]),
+    ]
 }
 
 /// So many symbols, then nodes up to so many: one true, and negations.
@@ -117,6 +125,20 @@ fn applied(functions: usize, predicates: usize) -> Problem {
     p
 }
 
+/// Tables on both sides of 86 nodes, where the library takes larger arrays: x = y, and negations.
+fn arrays() -> Vec<Case> {
+    let table = |nodes| {
+        let mut p = Problem::new();
+        let x = variables(&mut p, "x", 2);
+        let mut last = p.equal(x[0], x[1]);
+        while p.node_count() < nodes {
+            last = p.not(last);
+        }
+        (p.bytes(), None)
+    };
+    (84..=89).map(table).collect()
+}
+
 fn applications() -> Vec<Case> {
     let case = |functions, predicates, refusal: Option<u8>| {
         let bytes = applied(functions, predicates).bytes();
@@ -165,24 +187,46 @@ fn joined(p: &mut Problem, mut root: Formula, component: &[Term]) -> Formula {
     root
 }
 
+/// A product, the sizes of its components, and how many truth variables it has.
+type Product = (u128, Vec<usize>, usize);
+
+fn product_case((product, components, truths): &Product) -> Case {
+    let refusal = (*product > MOST_PLACES).then_some((13, 0));
+    (sizes(components, *truths).bytes(), refusal)
+}
+
 /// The products closest to 10^18 on both sides.
-fn products() -> Vec<Case> {
-    let mut all = Vec::new();
-    partitions(&mut all, &mut Vec::new(), 1, 24, 24);
-    all.sort();
+fn products(all: &[Product]) -> Vec<Case> {
     let over = all.partition_point(|(product, ..)| *product <= MOST_PLACES);
     assert!(0 < over && over < all.len());
     let near = &all[over.saturating_sub(20)..(over + 20).min(all.len())];
-    let case = |(product, components, truths): &(u128, Vec<usize>, usize)| {
-        let refusal = (*product > MOST_PLACES).then_some((13, 0));
-        (sizes(components, *truths).bytes(), refusal)
-    };
-    near.iter().map(case).collect()
+    near.iter().map(product_case).collect()
+}
+
+/// Products that are too large, while their low 64 bits would be taken, or be below 0: some of the
+/// smallest and of the largest.
+fn wrapped(all: &[Product]) -> Vec<Case> {
+    let low = |product: u128| product as u64;
+    let wraps = |(product, ..): &&Product| *product > u128::from(low(*product));
+    let small = |(product, ..): &&Product| u128::from(low(*product)) <= MOST_PLACES;
+    let below = |(product, ..): &&Product| *product > MOST_PLACES && (low(*product) as i64) < 0;
+    let first = all.iter().filter(wraps).filter(small).take(10);
+    let last = all.iter().rev().filter(wraps).filter(small).take(10);
+    let signed = all.iter().filter(below).take(10);
+    first.chain(last).chain(signed).map(product_case).collect()
+}
+
+/// All products in order.
+fn all_products() -> Vec<Product> {
+    let mut all = Vec::new();
+    partitions(&mut all, &mut Vec::new(), 1, 24, 24);
+    all.sort();
+    all
 }
 
 /// All products of components that hold at most `left` variables, with up to 16 truth variables.
 fn partitions(
-    all: &mut Vec<(u128, Vec<usize>, usize)>,
+    all: &mut Vec<Product>,
     components: &mut Vec<usize>,
     product: u128,
     left: usize,

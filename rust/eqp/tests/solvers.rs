@@ -1,0 +1,176 @@
+//! The verdicts against z3 and cvc5, where they are installed: valid must be unsat, falsified sat
+//! for the formula's negation.
+
+mod compared;
+mod counted;
+mod made;
+
+use std::env;
+use std::io::{self, Write};
+use std::process::{Command, Stdio};
+use std::thread;
+
+use compared::both::{call, BOTH};
+use compared::notice::notice;
+use counted::facts::Facts;
+use counted::tally::{Row, Tally};
+use eqp::samples::{ackermann, inlined_tap, late_tap, row};
+use eqp::{smt, Answer};
+use made::generate::{self, Shape};
+use made::rng::Rng;
+
+/// How many problems are generated.
+const PROBLEMS: usize = 600;
+/// No walk is longer than this.
+const MOST_PLACES: u128 = 50_000;
+
+/// What a solver must say, as both the library and the reference decide.
+fn verdict(problem: &[u8]) -> &'static str {
+    let [library, reference] = BOTH.map(|(_, decide)| call(decide, u64::MAX, problem).answer);
+    assert_eq!(library, reference);
+    match library {
+        Answer::Valid { .. } => "unsat",
+        Answer::Falsified { .. } => "sat",
+        other => panic!("{other:?} for {problem:?}"),
+    }
+}
+
+/// Document 01's rows, document 004's example, the feedback patches, and generated problems whose
+/// walks are short.
+fn problems() -> Vec<Vec<u8>> {
+    let rows = (1..=12).map(row);
+    let others = [ackermann(), late_tap(), inlined_tap()];
+    let mut problems: Vec<_> = rows.chain(others).map(|problem| problem.bytes()).collect();
+    let mut rng = Rng::new(7);
+    while problems.len() < 15 + PROBLEMS {
+        let shape = Shape {
+            nodes: rng.within(5, 60),
+            functions: rng.within(2, 8),
+            predicates: rng.below(5),
+            dense: rng.once_in(10),
+        };
+        let problem = generate::problem(&mut rng, shape).bytes();
+        if Facts::of(&problem).most_places() <= MOST_PLACES {
+            problems.push(problem);
+        }
+    }
+    problems
+}
+
+/// A generated problem, and what a solver says of it.
+type Said = (Facts, &'static str);
+
+#[rustfmt::skip] // One row on a line.
+const SAID: &[Row<Said>] = &[
+    ("unsat, with functions", |(f, said)| *said == "unsat" && has_arguments(f, 0), 90),
+    ("unsat, with predicates", |(f, said)| *said == "unsat" && has_arguments(f, 1), 70),
+    ("sat, with functions", |(f, said)| *said == "sat" && has_arguments(f, 0), 80),
+    ("sat, with predicates", |(f, said)| *said == "sat" && has_arguments(f, 1), 80),
+    ("unsat, with choices", |(f, said)| *said == "unsat" && f.ops[1] && f.ops[9], 60),
+    ("sat, with choices", |(f, said)| *said == "sat" && f.ops[1] && f.ops[9], 50),
+];
+
+/// Whether there are applications of arity 1 or more, of functions or of predicates.
+fn has_arguments(facts: &Facts, kind: usize) -> bool {
+    facts.arities[kind][1..].contains(&true)
+}
+
+/// Whether a directory of the PATH has this program.
+fn is_on_path(program: &str) -> bool {
+    let path = env::var_os("PATH").unwrap_or_default();
+    env::split_paths(&path).any(|directory| directory.join(program).is_file())
+}
+
+/// What a solver prints for a script.
+fn run(solver: &str, arguments: &[&str], script: &str) -> io::Result<String> {
+    let mut child = Command::new(solver)
+        .args(arguments)
+        .stdin(Stdio::piped())
+        .stdout(Stdio::piped())
+        .spawn()?;
+    let mut stdin = child.stdin.take().expect("its input is a pipe");
+    let output = thread::scope(|scope| {
+        scope.spawn(move || stdin.write_all(script.as_bytes()));
+        child.wait_with_output()
+    })?;
+    Ok(String::from_utf8_lossy(&output.stdout).into_owned())
+}
+
+/// Holds all verdicts against a solver's; says a word where it is not on the PATH.
+fn expect_agreement(solver: &str, arguments: &[&str]) {
+    if !is_on_path(solver) {
+        return notice(&format!("skipped: {solver} is not on the PATH"));
+    }
+    let problems = problems();
+    let mut script = String::from(smt::PREAMBLE);
+    for problem in &problems {
+        script += &smt::job(problem).expect("an accepted problem");
+    }
+    let printed = run(solver, arguments, &script).expect("the solver runs");
+    expect_said(solver, &problems, &printed);
+}
+
+/// A solver must print one line for each problem, and the right one.
+fn expect_said(solver: &str, problems: &[Vec<u8>], printed: &str) {
+    let said: Vec<&str> = printed.lines().collect();
+    assert_eq!(said.len(), problems.len(), "{solver} prints {printed}");
+    for (problem, said) in problems.iter().zip(said) {
+        assert_eq!(said, verdict(problem), "{solver} on {problem:?}");
+    }
+}
+
+/// Rows 1 and 2 are valid and falsified.
+fn expect_two_rows(printed: &str) {
+    let two = [row(1).bytes(), row(2).bytes()];
+    expect_said("a solver", &two, printed);
+}
+
+/// The night program is started by bash, so that is on the PATH where these tests run.
+#[test]
+fn programs_on_the_path() {
+    assert!(is_on_path("bash"));
+    assert!(!is_on_path("no such solver"));
+}
+
+#[test]
+fn two_verdicts() {
+    expect_two_rows("unsat\nsat\n");
+}
+
+#[test]
+#[should_panic(expected = "a solver on")]
+fn a_wrong_verdict() {
+    expect_two_rows("unsat\nunsat\n");
+}
+
+#[test]
+#[should_panic(expected = "a solver on")]
+fn another_wrong_verdict() {
+    expect_two_rows("sat\nsat\n");
+}
+
+#[test]
+#[should_panic(expected = "a solver prints")]
+fn too_few_verdicts() {
+    expect_two_rows("unsat\n");
+}
+
+#[test]
+fn z3() {
+    expect_agreement("z3", &["-in"]);
+}
+
+#[test]
+fn cvc5() {
+    expect_agreement("cvc5", &["--lang", "smt2", "--incremental", "-"]);
+}
+
+#[test]
+fn enough_of_each_verdict() {
+    let mut tally = Tally::new(SAID);
+    for problem in &problems() {
+        tally.add(&(Facts::of(problem), verdict(problem)));
+    }
+    println!("{tally}");
+    tally.expect_enough();
+}
