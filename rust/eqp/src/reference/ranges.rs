@@ -31,37 +31,56 @@ impl Ranges {
 /// For each variable the name of its component; joined variables have the same name.
 fn components(variables: usize, table: &Table) -> Vec<usize> {
     let mut classes: Vec<usize> = (0..variables).collect();
-    let leaves = leaves(table);
+    let leaves = Leaves::new(table);
     for equation in table.nodes.iter().filter(|node| node.op == Op::Equal) {
         let [left, right, _] = equation.indices();
-        for &u in &leaves[left] {
-            for &v in &leaves[right] {
-                link(&mut classes, u, v);
+        for &u in leaves.of(left) {
+            for &v in leaves.of(right) {
+                link(&mut classes, usize::from(u), usize::from(v));
             }
         }
     }
     classes
 }
 
-/// For each node its leaves, in no order and each once: without that, choices of choices would
-/// double the list again and again.
-fn leaves(table: &Table) -> Vec<Vec<usize>> {
-    let mut leaves: Vec<Vec<usize>> = Vec::with_capacity(table.nodes.len());
-    for node in &table.nodes {
-        let [_, second, third] = node.indices();
-        leaves.push(match node.op {
-            Op::Apply => vec![usize::from(node.symbol)],
-            Op::Choose => {
-                let mut both = leaves[second].clone();
-                let more = leaves[third].iter().filter(|leaf| !both.contains(leaf));
-                let more: Vec<_> = more.copied().collect();
-                both.extend(more);
-                both
+/// The leaves of each node, one list after the other.
+struct Leaves {
+    lists: Vec<u8>,
+    /// Where each list starts, and where the last one ends.
+    starts: Vec<usize>,
+}
+
+impl Leaves {
+    /// A leaf is listed once: choices of choices would else double their lists again and again.
+    fn new(table: &Table) -> Self {
+        let mut lists = Vec::with_capacity(table.nodes.len());
+        let mut starts = Vec::with_capacity(table.nodes.len() + 1);
+        for node in &table.nodes {
+            let start = lists.len();
+            starts.push(start);
+            let [_, second, third] = node.indices();
+            match node.op {
+                Op::Apply => lists.push(node.symbol),
+                Op::Choose => {
+                    let both = (starts[second]..starts[second + 1])
+                        .chain(starts[third]..starts[third + 1]);
+                    for at in both {
+                        let leaf = lists[at];
+                        if !lists[start..].contains(&leaf) {
+                            lists.push(leaf);
+                        }
+                    }
+                }
+                _ => {}
             }
-            _ => Vec::new(),
-        });
+        }
+        starts.push(lists.len());
+        Self { lists, starts }
     }
-    leaves
+
+    fn of(&self, node: usize) -> &[u8] {
+        &self.lists[self.starts[node]..self.starts[node + 1]]
+    }
 }
 
 /// Makes one component of those of two variables: all that have v's name take u's.
