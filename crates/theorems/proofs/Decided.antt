@@ -24,16 +24,7 @@ use Rattle.definitions.specs.declared.Decision.{Decision}
 use Rattle.theorems.specs.Conditions.{number, Refuses, PassesTwelve, Passes}
 use Rattle.theorems.specs.Searched.{Falsifiable, tableTruth, triedOf, triedWithin}
 use Rattle.theorems.proofs.Accepted.{Accepted}
-use Rattle.theorems.proofs.Exactly.{
-  valid-sound,
-  falsified-sound,
-  stopped-sound,
-  valid-exactly,
-  falsified-exactly,
-  stopped-exactly,
-  valid-stays,
-  falsified-stays,
-}
+use Rattle.theorems.proofs.Exactly.{valid-sound, falsified-sound, stopped-sound, valid-exactly, falsified-exactly, stopped-exactly}
 use Rattle.theorems.proofs.Search.Verdict.{countOf, tried-is}
 use Rattle.theorems.proofs.Tables.Back.{table-back}
 use Rattle.theorems.proofs.Truth.{rootTruth, interpretationOf, assignmentOf, assignment-truth, interpretation-truth}
@@ -179,7 +170,7 @@ module _
     problem : Accepted s
     problem = taken s (length work) (length witness) free .problem
 
-    decision-is : r ≡ decisionOf s found
+    pub decision-is : r ≡ decisionOf s found
     decision-is = decision-apart r (decisionOf s found) (answer-by none free ∙ sym (decision-read s found))
 
     witness-is : (o : Outcome) → found ≡ o → witness′ ≡ witnessWritten s o witness
@@ -256,46 +247,3 @@ module _
     pub tried-decided : triedOf r ≡ triedWithin budget (product s) (firstFalse (trueAt s) 1 (product s))
     unfolding outcomeOf
     tried-decided = ap triedOf (decision-is free) ∙ decision-tried s found ∙ tried-is (trueAt s) budget (product s)
-
--- an outcome that is not stopped is the same at a larger budget
-outcome-stays : (s : List ℕ) (budget larger : ℕ) → budget ≤ larger → (o : Outcome) → outcomeOf s budget ≡ o
-    → ((t : ℕ) → o ≡ stopped t → ⊥) → outcomeOf s larger ≡ o
-outcome-stays s budget larger h (valid t) e n = valid-stays s budget larger t h e
-outcome-stays s budget larger h (falsified t) e n = falsified-stays s budget larger t h e
-outcome-stays s budget larger h (stopped t) e n = absurd (n t refl)
-
--- at a larger budget every answer but stopped is the same, with its buffers
-module _
-    (budget larger : ℕ)
-    (more : budget ≤ larger)
-    (s work witness : List ℕ)
-    (r q : Decision)
-    (work′ witness′ v v′ : List ℕ)
-    (promise : DecidePromise budget s work witness r work′ witness′)
-    (other : DecidePromise larger s work witness q v v′)
-    (moved : (tried places : ℕ) → r ≡ Decision.Stopped tried places → ⊥) where
-  abbrev refused-by : Option Refused
-  refused-by = decideRefusal s (length work) (length witness)
-
-  outcome-same : refused-by ≡ none → outcomeOf s larger ≡ outcomeOf s budget
-  outcome-same e =
-      outcome-stays s budget larger more (outcomeOf s budget) refl
-      (λ t o. moved t (product s) (decision-is budget s work witness r work′ witness′ promise e ∙ ap (decisionOf s) o))
-
-  by-outcome : {A : Type 0} (f : Option Refused → Outcome → A) → ((x : Refused) (o o′ : Outcome) → f (some x) o ≡ f (some x) o′)
-      → f refused-by (outcomeOf s larger) ≡ f refused-by (outcomeOf s budget)
-  by-outcome {A} f h = go refused-by refl
-    where
-      go : (o : Option Refused) → refused-by ≡ o → f o (outcomeOf s larger) ≡ f o (outcomeOf s budget)
-      go (some x) e = h x (outcomeOf s larger) (outcomeOf s budget)
-      go none e = ap (f none) (outcome-same e)
-
-  pub grown-decision : (q ≡ r) × (v ≡ work′) × (v′ ≡ witness′)
-  unfolding decideAnswer witnessAfter
-  grown-decision = (
-    decision-apart q r
-        (other .answers ∙ by-outcome (λ x o. unless x (decided s o)) (λ x o o′. refl) ∙ sym (promise .answers)),
-    other .work-after ∙ sym (promise .work-after),
-    other .witness-after ∙ by-outcome (λ x o. unlessRefused x witness (witnessWritten s o witness)) (λ x o o′. refl)
-        ∙ sym (promise .witness-after),
-  )

@@ -13,6 +13,7 @@ pub mod Taken
 pub mod Unique
 pub mod Refusing
 pub mod Decided
+pub mod Growing
 pub mod Called
 pub mod Top
 pub mod HostTop

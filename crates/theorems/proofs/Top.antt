@@ -40,8 +40,8 @@ use Rattle.theorems.proofs.Decided.{
   falsified-decided,
   stopped-decided,
   tried-decided,
-  grown-decision,
 }
+use Rattle.theorems.proofs.Growing.{grown-decision}
 
 module _
     (budget : ℕ)

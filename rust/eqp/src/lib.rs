@@ -59,14 +59,14 @@ pub enum Answer {
     },
     /// The formula is true at every place.
     Valid {
-        /// The number of assignments evaluated, which is the product.
+        /// How many places were tried: all of them, the product.
         tried: u64,
         /// The number of places.
         product: u64,
     },
     /// The formula is false at the last place tried.
     Falsified {
-        /// The number of assignments evaluated, which is the first false place.
+        /// How many places were tried: the first false place.
         tried: u64,
         /// The number of places.
         product: u64,
@@ -75,7 +75,7 @@ pub enum Answer {
     },
     /// The budget ended before a false place or the last place.
     Stopped {
-        /// The number of assignments evaluated, which is the budget.
+        /// How many places were tried: the budget.
         tried: u64,
         /// The number of places.
         product: u64,
