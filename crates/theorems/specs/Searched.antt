@@ -1,4 +1,5 @@
--- What a search of the places says (01, 'Verdicts'), over any test of places. Assumes nothing.
+-- What a search of the places says (01, 'Verdicts'), over any test of places; and the other words of Top: a formula that some
+-- interpretation falsifies, the truth of a table that stands in bytes, the count of an answer. Assumes nothing.
 use mathlib.Core.Path.{_≡_}
 use Prim.Native.Nat.{ℕ, min, _≤_, _<_}
 use mathlib.Core.Bool.{Bool, true, false, cond}
