@@ -8,5 +8,6 @@ pub mod Places
 pub mod Verdict
 pub mod Witness
 pub mod Operations
+pub mod Text
 pub mod Night
 pub mod Worked

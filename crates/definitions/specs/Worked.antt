@@ -3,3 +3,4 @@ pub mod Problems
 pub mod Rows
 pub mod Tables
 pub mod Facts
+pub mod Texts

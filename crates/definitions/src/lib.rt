@@ -1,9 +1,10 @@
-// The answers of the four public operations. What each answer is, for every input, is said in specs/: there the answers are
+// The answers of the public operations. What each answer is, for every input, is said in specs/: there the answers are
 // the paper's numbers and values, and specs/Operations/Readings lists them for each case below.
 ghost use mathlib.Core.Path.{_≡_};
 ghost use Rattle.definitions.specs.Operations.Readings.{refusalRead};
 
-// The thirteen refusals, in the order tried. Two of them have a place.
+// The refusals, one list for every operation: 1 to 13 are decide's, in the order tried; the last three are read's. Four of them
+// have a place.
 pub enum Refusal {
     TooShort,
     NotEqp,
@@ -18,6 +19,9 @@ pub enum Refusal {
     ShortWork,
     ShortWitness,
     BigProduct,
+    WrongToken(usize),
+    TooDeep(usize),
+    ShortProblem,
 }
 
 // The refusal's number.
@@ -38,10 +42,13 @@ pub fn number_of(refusal: Refusal) -> u8
         Refusal::ShortWork => 11,
         Refusal::ShortWitness => 12,
         Refusal::BigProduct => 13,
+        Refusal::WrongToken(_) => 14,
+        Refusal::TooDeep(_) => 15,
+        Refusal::ShortProblem => 23,
     }
 }
 
-// Two refusals have a place; it is 0 for the others.
+// Four refusals have a place; it is 0 for the others.
 pub fn place_of(refusal: Refusal) -> usize
     ensures { λ r. ⌜ r ≡ refusalRead refusal .place ⌝ }
 {
@@ -59,6 +66,9 @@ pub fn place_of(refusal: Refusal) -> usize
         Refusal::ShortWork => 0,
         Refusal::ShortWitness => 0,
         Refusal::BigProduct => 0,
+        Refusal::WrongToken(k) => k,
+        Refusal::TooDeep(k) => k,
+        Refusal::ShortProblem => 0,
     }
 }
 
@@ -101,5 +111,11 @@ pub enum Decision {
         tried: u64,
         product: u64,
     },
+    Refused(Refusal),
+}
+
+// What read answers: the length of the problem that it wrote.
+pub enum Reading {
+    Problem { written: usize },
     Refused(Refusal),
 }

@@ -50,6 +50,9 @@ use Rattle.definitions.specs.declared.Refusal.the-variants.{
   ShortWork,
   ShortWitness,
   BigProduct,
+  WrongToken,
+  TooDeep,
+  ShortProblem,
 }
 use Rattle.theorems.specs.Conditions.{Meets, number, place, Refuses, PassesTwelve, Passes}
 use Rattle.theorems.proofs.Laws.Tests.{or-cases, or-left, or-right, none≢some, some-same}
@@ -116,6 +119,9 @@ module _ (s : List ℕ) (work room : ℕ) where
   met-refuses ShortWork m = ap (λ b. refuseIf b 11) (lt-ltb work 21056 m)
   met-refuses ShortWitness m = ap (λ b. refuseIf b 12) (lt-ltb room 206 m)
   met-refuses BigProduct m = ap (λ b. refuseIf b 13) (lt-ltb (10 ^ 18) (product s) m)
+  met-refuses (WrongToken k) m = absurd m
+  met-refuses (TooDeep k) m = absurd m
+  met-refuses ShortProblem m = absurd m
 
   -- what refuses with a number is a refusal of that number whose condition is met
   abbrev Named : ℕ → Option Refused → Type 0
@@ -281,3 +287,6 @@ module _ (s : List ℕ) (work room : ℕ) where
   place-small ShortWork r = omega arith
   place-small ShortWitness r = omega arith
   place-small BigProduct r = omega arith
+  place-small (WrongToken k) r = absurd (r .0)
+  place-small (TooDeep k) r = absurd (r .0)
+  place-small ShortProblem r = absurd (r .0)

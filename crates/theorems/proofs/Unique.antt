@@ -49,6 +49,9 @@ use Rattle.definitions.specs.declared.Refusal.the-variants.{
   ShortWork,
   ShortWitness,
   BigProduct,
+  WrongToken,
+  TooDeep,
+  ShortProblem,
 }
 use Rattle.definitions.specs.declared.Checked.{Checked}
 use Rattle.definitions.specs.declared.Eliminated.{Eliminated}
@@ -76,8 +79,11 @@ refusalNamed r =
     ∷ ManyPredicates
     ∷ ShortWork
     ∷ ShortWitness
+    ∷ BigProduct
+    ∷ WrongToken (r .place)
+    ∷ TooDeep (r .place)
     ∷ [])
-    (pred (r .number)) BigProduct
+    (pred (r .number)) ShortProblem
 
 refusal-back : (r : Refusal) → refusalNamed (refusalRead r) ≡ r
 refusal-back TooShort = refl
@@ -93,6 +99,9 @@ refusal-back ManyPredicates = refl
 refusal-back ShortWork = refl
 refusal-back ShortWitness = refl
 refusal-back BigProduct = refl
+refusal-back (WrongToken k) = refl
+refusal-back (TooDeep k) = refl
+refusal-back ShortProblem = refl
 
 abbrev checkedNamed : Answer Counts → Checked
 checkedNamed (refused r) = Checked.Refused (refusalNamed r)

@@ -38,6 +38,9 @@ use Rattle.definitions.specs.declared.Refusal.the-variants.{
   ShortWork,
   ShortWitness,
   BigProduct,
+  WrongToken,
+  TooDeep,
+  ShortProblem,
 }
 
 -- k is the first of n things that is not right
@@ -53,7 +56,7 @@ symbolFine s k = symbolByteRight (getD (symbolsOf s) k 0)
 abbrev pub nodeFine : List ℕ → ℕ → Bool
 nodeFine s k = nodeRight (symbolsOf s) (take k (nodesOf s)) (node (nodesOf s) k)
 
--- the input meets the condition of a refusal
+-- the input meets the condition of a refusal; those of the text reader are none of decide's
 abbrev pub Meets : List ℕ → ℕ → ℕ → Refusal → Type 0
 Meets s work room TooShort = length s < 8
 Meets s work room NotEqp = stands s 0 EQP ≡ false
@@ -68,6 +71,9 @@ Meets s work room ManyPredicates = 16 < predicatesIn (nodesOf s)
 Meets s work room ShortWork = work < 21056
 Meets s work room ShortWitness = room < 206
 Meets s work room BigProduct = 10 ^ 18 < product s
+Meets s work room (WrongToken k) = ⊥
+Meets s work room (TooDeep k) = ⊥
+Meets s work room ShortProblem = ⊥
 
 abbrev pub number : Refusal → ℕ
 number x = refusalRead x .number

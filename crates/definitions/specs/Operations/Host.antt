@@ -1,5 +1,5 @@
--- The call from the overnight rig: what it returns, and what it writes into the answer buffer (01, 'The job'; the layout is
--- docs/FORMAT.md, 'The host's answer'). Assumes nothing.
+-- The calls from the overnight rig: what each returns, and what it writes into the answer buffer (01, 'The job'; 02, E1; the
+-- layouts are docs/FORMAT.md, 'The host's answer'). Assumes nothing.
 use Prim.Native.Nat.{ℕ}
 use mathlib.Core.List.{List, _∷_, _++_}
 use mathlib.Core.Bool.{true, false}
@@ -8,6 +8,7 @@ use lib.Dec.{ltb}
 use Rattle.definitions.specs.Bytes.{bytesOf, two}
 use Rattle.definitions.specs.Operations.Answers.{Answer, refused, given, Verdict, isValid, isFalsified, isStopped, Decided, decideAnswer}
 use Rattle.definitions.specs.Operations.Buffers.{over, workAfterDecide, witnessAfter}
+use Rattle.definitions.specs.Text.Nodes.{readAnswer, readBuffer}
 
 -- byte 0: 0 for a refusal
 abbrev pub verdictByte : Verdict → ℕ
@@ -42,5 +43,27 @@ hostOutcome budget s work witness answer =
             work = workAfterDecide s work (length witness);
             witness = witnessAfter s budget (length work) witness;
             answer = over (answerBytes (decideAnswer s budget (length work) (length witness))) answer;
+          }
+    ]
+
+-- the call that reads a text: 10 in byte 0, and the problem's length in the bytes of tried; or the refusal
+abbrev pub readBytes : Answer ℕ → List ℕ
+readBytes (refused r) = thirtyTwo 0 (r .number) 0 (r .place) 0 0
+readBytes (given written) = thirtyTwo 10 0 0 0 written 0
+
+pub record ReadOutcome : Type 0 where
+  pub returned : ℕ
+  pub problem : List ℕ
+  pub answer : List ℕ
+
+unfoldable pub readOutcome : List ℕ → List ℕ → List ℕ → ReadOutcome
+readOutcome text problem answer =
+    elim (ltb (length answer) 32) [
+      | true ↦ record { returned = 0; problem = problem; answer = answer }
+      | false ↦
+          record {
+            returned = 1;
+            problem = readBuffer text problem;
+            answer = over (readBytes (readAnswer text (length problem))) answer;
           }
     ]

@@ -6,12 +6,14 @@ use mathlib.Core.List.{List}
 use lib.ListN.{length}
 use Rattle.definitions.specs.Operations.Answers.{checkAnswer, eliminateAnswer, rangesAnswer, decideAnswer}
 use Rattle.definitions.specs.Operations.Buffers.{workAfter, workAfterDecide, witnessAfter}
-use Rattle.definitions.specs.Operations.Readings.{checkedRead, eliminatedRead, rangesRead, decisionRead}
-use Rattle.definitions.specs.Operations.Host.{hostOutcome}
+use Rattle.definitions.specs.Operations.Readings.{checkedRead, eliminatedRead, rangesRead, decisionRead, readingRead}
+use Rattle.definitions.specs.Operations.Host.{hostOutcome, readOutcome}
+use Rattle.definitions.specs.Text.Nodes.{readAnswer, readBuffer}
 use Rattle.definitions.specs.declared.Checked.{Checked}
 use Rattle.definitions.specs.declared.Eliminated.{Eliminated}
 use Rattle.definitions.specs.declared.Ranges.{Ranges}
 use Rattle.definitions.specs.declared.Decision.{Decision}
+use Rattle.definitions.specs.declared.Reading.{Reading}
 
 pub record CheckPromise (s : List ℕ) (r : Checked) : Type 0 where
   pub answers : checkedRead r ≡ checkAnswer s
@@ -34,3 +36,13 @@ pub record HostPromise (budget : ℕ) (s work witness answer : List ℕ) (r : �
   pub work-after : work′ ≡ hostOutcome budget s work witness answer .work
   pub witness-after : witness′ ≡ hostOutcome budget s work witness answer .witness
   pub answer-after : answer′ ≡ hostOutcome budget s work witness answer .answer
+
+-- read (02, E1): the length of the problem written, or the refusal; and the problem buffer
+pub record ReadPromise (text problem : List ℕ) (r : Reading) (problem′ : List ℕ) : Type 0 where
+  pub answers : readingRead r ≡ readAnswer text (length problem)
+  pub problem-after : problem′ ≡ readBuffer text problem
+
+pub record HostReadPromise (text problem answer : List ℕ) (r : ℕ) (problem′ answer′ : List ℕ) : Type 0 where
+  pub returns : r ≡ readOutcome text problem answer .returned
+  pub problem-after : problem′ ≡ readOutcome text problem answer .problem
+  pub answer-after : answer′ ≡ readOutcome text problem answer .answer

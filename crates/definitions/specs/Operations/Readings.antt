@@ -1,5 +1,6 @@
 -- The paper's number and values for each case of the answer enums (01, 'Where each form goes', last paragraph). The promises
 -- go through these readings. Assumes nothing.
+use Prim.Native.Nat.{ℕ}
 use Rattle.definitions.specs.Problem.Check.{Refused, refuse}
 use Rattle.definitions.specs.Operations.Answers.{
   Answer,
@@ -29,12 +30,16 @@ use Rattle.definitions.specs.declared.Refusal.the-variants.{
   ShortWork,
   ShortWitness,
   BigProduct,
+  WrongToken,
+  TooDeep,
+  ShortProblem,
 }
 use Rattle.definitions.specs.declared.Checked.{Checked}
 use Rattle.definitions.specs.declared.Eliminated.{Eliminated}
 use Rattle.definitions.specs.declared.Measured.{Measured}
 use Rattle.definitions.specs.declared.Ranges.{Ranges}
 use Rattle.definitions.specs.declared.Decision.{Decision}
+use Rattle.definitions.specs.declared.Reading.{Reading}
 
 abbrev pub refusalRead : Refusal → Refused
 refusalRead TooShort = refuse 1 0
@@ -50,6 +55,9 @@ refusalRead ManyPredicates = refuse 10 0
 refusalRead ShortWork = refuse 11 0
 refusalRead ShortWitness = refuse 12 0
 refusalRead BigProduct = refuse 13 0
+refusalRead (WrongToken k) = refuse 14 k
+refusalRead (TooDeep k) = refuse 15 k
+refusalRead ShortProblem = refuse 23 0
 
 abbrev pub checkedRead : Checked → Answer Counts
 checkedRead (Checked.Accepted f p) = given (record { functions = f; predicates = p })
@@ -74,3 +82,7 @@ decisionRead (Decision.Falsified tried product written) =
 decisionRead (Decision.Stopped tried product) =
     given (record { verdict = isStopped; tried = tried; product = product; written = 0 })
 decisionRead (Decision.Refused r) = refused (refusalRead r)
+
+abbrev pub readingRead : Reading → Answer ℕ
+readingRead (Reading.Problem written) = given written
+readingRead (Reading.Refused r) = refused (refusalRead r)

@@ -3,10 +3,10 @@
 use Prim.Native.Nat.{ℕ, zero, suc, _+_}
 use mathlib.Core.List.{List, [], _∷_, _++_}
 use mathlib.Core.Bool.{Bool, _&&_}
-use lib.ListN.{getD}
+use lib.ListN.{length, getD}
 use lib.Dec.{eqb}
 use Rattle.definitions.specs.Lists.{snoc, concatMap}
-use Rattle.definitions.specs.Bytes.{byteAt, twoAt, two}
+use Rattle.definitions.specs.Bytes.{byteAt, twoAt, two, EQP}
 
 pub record Node : Type 0 where
   pub op : ℕ
@@ -48,6 +48,10 @@ nodeBytes n = n .op ∷ n .sym ∷ two (n .a) ++ two (n .b) ++ two (n .c)
 -- the bytes of a table
 abbrev pub tableBytes : List Node → List ℕ
 tableBytes t = concatMap nodeBytes t
+
+-- the bytes of a problem: the mark, version 1, the two counts, the symbol bytes, the nodes
+abbrev pub problemBytes : List ℕ → List Node → List ℕ
+problemBytes symbols t = EQP ++ two 1 ++ (length symbols ∷ []) ++ two (length t) ++ symbols ++ tableBytes t
 
 -- a thing for each node of a table, in order after those in hand; each comes from the things of the nodes before it
 abbrev pub grown : {X : Type 0} → (List X → Node → X) → List X → List Node → List X

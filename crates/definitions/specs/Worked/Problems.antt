@@ -1,14 +1,8 @@
 -- The problems that the paper works: rows 1 to 12, as bytes. Nodes are in order of first mention, arguments first, variables
 -- x, y before f. Assumes nothing.
 use Prim.Native.Nat.{ℕ}
-use mathlib.Core.List.{List, [], _∷_, _++_}
-use lib.ListN.{length}
-use Rattle.definitions.specs.Bytes.{EQP, two}
-use Rattle.definitions.specs.Problem.Node.{Node, plain, tableBytes}
-
--- a problem from its symbol bytes and its nodes
-abbrev pub problem : List ℕ → List Node → List ℕ
-problem symbols t = EQP ++ two 1 ++ (length symbols ∷ []) ++ two (length t) ++ symbols ++ tableBytes t
+use mathlib.Core.List.{List, [], _∷_}
+use Rattle.definitions.specs.Problem.Node.{Node, plain, problemBytes}
 
 -- the node of a symbol: a variable, a function of one argument, a truth variable
 abbrev pub variable : ℕ → Node
@@ -57,54 +51,54 @@ p = 16 ∷ []
 
 -- x = x
 abbrev pub row1 : List ℕ
-row1 = problem x (variable 0 ∷ equation 0 0 ∷ [])
+row1 = problemBytes x (variable 0 ∷ equation 0 0 ∷ [])
 
 -- x = y
 abbrev pub row2 : List ℕ
-row2 = problem xy (variable 0 ∷ variable 1 ∷ equation 0 1 ∷ [])
+row2 = problemBytes xy (variable 0 ∷ variable 1 ∷ equation 0 1 ∷ [])
 
 -- not x = y
 abbrev pub row3 : List ℕ
-row3 = problem xy (variable 0 ∷ variable 1 ∷ equation 0 1 ∷ negation 2 ∷ [])
+row3 = problemBytes xy (variable 0 ∷ variable 1 ∷ equation 0 1 ∷ negation 2 ∷ [])
 
 -- not x = y, or f(x) = f(y)
 abbrev pub row4 : List ℕ
 row4 =
-    problem xyf
+    problemBytes xyf
     (variable 0 ∷ variable 1 ∷ equation 0 1 ∷ negation 2 ∷ applied 2 0 ∷ applied 2 1 ∷ equation 4 5 ∷ disjunction 3 6 ∷ [])
 
 -- not f(x) = f(y), or x = y
 abbrev pub row5 : List ℕ
 row5 =
-    problem xyf
+    problemBytes xyf
     (variable 0 ∷ variable 1 ∷ applied 2 0 ∷ applied 2 1 ∷ equation 2 3 ∷ negation 4 ∷ equation 0 1 ∷ disjunction 5 6 ∷ [])
 
 -- f(x) = f(y)
 abbrev pub row6 : List ℕ
-row6 = problem xyf (variable 0 ∷ variable 1 ∷ applied 2 0 ∷ applied 2 1 ∷ equation 2 3 ∷ [])
+row6 = problemBytes xyf (variable 0 ∷ variable 1 ∷ applied 2 0 ∷ applied 2 1 ∷ equation 2 3 ∷ [])
 
 -- p or not p
 abbrev pub row7 : List ℕ
-row7 = problem p (truthVariable 0 ∷ negation 0 ∷ disjunction 0 1 ∷ [])
+row7 = problemBytes p (truthVariable 0 ∷ negation 0 ∷ disjunction 0 1 ∷ [])
 
 -- p
 abbrev pub row8 : List ℕ
-row8 = problem p (truthVariable 0 ∷ [])
+row8 = problemBytes p (truthVariable 0 ∷ [])
 
 -- choice(p, x, y) = x
 abbrev pub row9 : List ℕ
-row9 = problem (16 ∷ 0 ∷ 0 ∷ []) (truthVariable 0 ∷ variable 1 ∷ variable 2 ∷ choice 0 1 2 ∷ equation 3 1 ∷ [])
+row9 = problemBytes (16 ∷ 0 ∷ 0 ∷ []) (truthVariable 0 ∷ variable 1 ∷ variable 2 ∷ choice 0 1 2 ∷ equation 3 1 ∷ [])
 
 -- true
 abbrev pub row10 : List ℕ
-row10 = problem [] (yes ∷ [])
+row10 = problemBytes [] (yes ∷ [])
 
 -- false
 abbrev pub row11 : List ℕ
-row11 = problem [] (no ∷ [])
+row11 = problemBytes [] (no ∷ [])
 
 -- not (x = y and f(x) = f(y))
 abbrev pub row12 : List ℕ
 row12 =
-    problem xyf
+    problemBytes xyf
     (variable 0 ∷ variable 1 ∷ equation 0 1 ∷ applied 2 0 ∷ applied 2 1 ∷ equation 3 4 ∷ conjunction 2 5 ∷ negation 6 ∷ [])

@@ -3,9 +3,9 @@ use mathlib.Core.Path.{_≡_, refl}
 use Prim.Native.Nat.{ℕ}
 use mathlib.Core.List.{List, [], _∷_}
 use lib.ListN.{length}
-use Rattle.definitions.specs.Problem.Node.{Node, plain}
+use Rattle.definitions.specs.Problem.Node.{Node, plain, problemBytes}
 use Rattle.definitions.specs.Elimination.{eliminated, tableOf, rootOf}
-use Rattle.definitions.specs.Worked.Problems.{problem, variable, applied, truthVariable, choice, equation, negation, conjunction, disjunction, row4}
+use Rattle.definitions.specs.Worked.Problems.{variable, applied, truthVariable, choice, equation, negation, conjunction, disjunction, row4}
 
 -- row 4 has 10 function-free nodes
 pub row4-nodes : length (tableOf row4) ≡ 10
@@ -13,7 +13,7 @@ unfolding eliminated
 row4-nodes = refl
 
 -- a repeat lays nothing, and takes the image of the earliest: f(x) = f(x)
-pub repeat-table : tableOf (problem (0 ∷ 1 ∷ []) (variable 0 ∷ applied 1 0 ∷ applied 1 0 ∷ equation 1 2 ∷ []))
+pub repeat-table : tableOf (problemBytes (0 ∷ 1 ∷ []) (variable 0 ∷ applied 1 0 ∷ applied 1 0 ∷ equation 1 2 ∷ []))
     ≡ variable 0 ∷ variable 1 ∷ equation 1 1 ∷ []
 unfolding eliminated
 repeat-table = refl
@@ -22,7 +22,7 @@ repeat-table = refl
 -- has a choice for the second, of its own variable node 5 and not of its image 7, and then one for the first
 abbrev pub ackermann : List ℕ
 ackermann =
-    problem (0 ∷ 0 ∷ 0 ∷ 1 ∷ [])
+    problemBytes (0 ∷ 0 ∷ 0 ∷ 1 ∷ [])
     (variable 0
     ∷ variable 1
     ∷ equation 0 1
@@ -70,7 +70,7 @@ ackermann-root = refl
 abbrev of3 : ℕ → ℕ → ℕ → ℕ → Node
 of3 k x y z = record { op = 0; sym = k; a = x; b = y; c = z }
 
-pub three-arguments-table : tableOf (problem (0 ∷ 0 ∷ 3 ∷ []) (variable 0 ∷ variable 1 ∷ of3 2 0 1 0 ∷ of3 2 1 0 1 ∷ equation 2 3 ∷ []))
+pub three-arguments-table : tableOf (problemBytes (0 ∷ 0 ∷ 3 ∷ []) (variable 0 ∷ variable 1 ∷ of3 2 0 1 0 ∷ of3 2 1 0 1 ∷ equation 2 3 ∷ []))
     ≡ variable 0
     ∷ variable 1
     ∷ variable 2
@@ -90,7 +90,7 @@ three-arguments-table = refl
 abbrev tested : ℕ → ℕ → Node
 tested k x = record { op = 6; sym = k; a = x; b = 0; c = 0 }
 
-pub predicate-table : tableOf (problem (0 ∷ 0 ∷ 17 ∷ []) (variable 0 ∷ variable 1 ∷ tested 2 0 ∷ tested 2 1 ∷ disjunction 2 3 ∷ []))
+pub predicate-table : tableOf (problemBytes (0 ∷ 0 ∷ 17 ∷ []) (variable 0 ∷ variable 1 ∷ tested 2 0 ∷ tested 2 1 ∷ disjunction 2 3 ∷ []))
     ≡ variable 0
     ∷ variable 1
     ∷ truthVariable 0
