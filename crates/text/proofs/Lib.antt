@@ -1,0 +1,5 @@
+pub mod ByteLaws
+pub mod LexLaws
+pub mod Rows
+pub mod TokenLaws
+pub mod Streams
