@@ -1,2 +1,3 @@
 pub mod Lexing
 pub mod Words
+pub mod Lists
