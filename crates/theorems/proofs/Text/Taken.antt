@@ -1,5 +1,7 @@
 -- Which tokens are taken: exactly those that a text of the subset can go on with.
 pub mod Runs
+pub mod Spelling
+pub mod Lexed
 pub mod Invariant
 pub mod Levels
 pub mod Commands

@@ -23,7 +23,8 @@ use Rattle.theorems.proofs.Text.Taken.Levels.{opens, closes, owed, inv-
 use Rattle.theorems.proofs.Text.Taken.Sound.{keep-run, start-inv}
 use Rattle.theorems.proofs.Text.Taken.Finishing.{CanAt}
 use Rattle.theorems.proofs.Text.Taken.Able.{can-run, can-start}
-use Rattle.theorems.proofs.Text.Taken.Fourteen.{taken-viable, plainTokens, tokens-snoc, refused-same, given≢refused}
+use Rattle.theorems.specs.Texts.{plainTokens}
+use Rattle.theorems.proofs.Text.Taken.Fourteen.{taken-viable, tokens-snoc, refused-same, given≢refused}
 
 -- at most 65 brackets are open, at every point
 abbrev pub Shallow : List Token → Type 0

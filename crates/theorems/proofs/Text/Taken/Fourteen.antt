@@ -4,7 +4,7 @@ use mathlib.Core.Path.{_≡_, refl, sym, ap, _∙_, subst}
 use Prim.Native.Nat.{ℕ, _-_}
 use native.Mathlib.Omega.{arith}
 use mathlib.Core.Bool.{Bool, true, false, true≢false}
-use mathlib.Core.List.{List, [], _∷_, _++_, map, append-assoc, append-nil}
+use mathlib.Core.List.{List, [], _∷_, _++_, append-assoc, append-nil}
 use mathlib.Core.Logic.{_⊎_, inl, inr}
 use mathlib.Core.Option.{Option, none, some}
 use lib.ListN.{length}
@@ -16,6 +16,7 @@ use Rattle.theorems.proofs.Laws.Tests.{some-same, none≢some}
 use Rattle.definitions.specs.Text.Tokens.{Token, Placed, tokensOf}
 use Rattle.definitions.specs.Text.Grammar.{Script, Subset, Viable}
 use Rattle.definitions.specs.Text.Reader.{State, start, step, levelOf, isFinished, scriptOf, readFrom, scriptRead}
+use Rattle.theorems.specs.Texts.{plainTokens}
 use Rattle.theorems.proofs.Text.Taken.Runs.{runs, runs-step, runs-append, runs-prefix}
 use Rattle.theorems.proofs.Text.Taken.Sound.{read-subset}
 use Rattle.theorems.proofs.Text.Taken.Able.{finishes}
@@ -32,10 +33,6 @@ pub viable-taken : (ts : List Token) → Viable ts → (y : State) × (runs star
 viable-taken ts v =
     let s = v .whole in
     runs-prefix start (ending (s .script)) ts (v .rest) (ap (runs start) (sym (s .writes)) ∙ run-script (s .script) (s .right))
-
--- the tokens of a text, and of a part of it
-abbrev pub plainTokens : List Placed → List Token
-plainTokens ps = map (λ p. p .token) ps
 
 pub tokens-snoc : (ps : List Placed) (p : Placed) → plainTokens (snoc ps p) ≡ snoc (plainTokens ps) (p .token)
 tokens-snoc [] p = refl

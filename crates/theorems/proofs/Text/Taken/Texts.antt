@@ -20,7 +20,8 @@ use Rattle.theorems.proofs.Text.Meant.Accepted.{problem-taken}
 use Rattle.theorems.proofs.Text.Meant.Bytes.{problem-means}
 use Rattle.theorems.proofs.Text.Taken.Runs.{runs, runs-step, runs-append}
 use Rattle.theorems.proofs.Text.Taken.Sound.{read-out}
-use Rattle.theorems.proofs.Text.Taken.Fourteen.{plainTokens, tokens-snoc, given-same, given≢refused}
+use Rattle.theorems.specs.Texts.{plainTokens}
+use Rattle.theorems.proofs.Text.Taken.Fourteen.{tokens-snoc, given-same, given≢refused}
 
 -- a text that is read has a right script, and its tokens write it
 read-from : (ps : List Placed) (last : ℕ) (s : Script) (st : State) (done : List Placed) → runs start (plainTokens done) ≡ some st
