@@ -47,7 +47,6 @@ use Rattle.theorems.specs.Texts.{Sat}
 use Rattle.theorems.proofs.Laws.First.{first-none}
 use Rattle.theorems.proofs.Refusing.{passes-twelve}
 use Rattle.theorems.proofs.Top.{refused-means, taken-means, valid-means, falsified-means, stopped-means, enough-means}
-use Rattle.theorems.proofs.Text.Taken.Fourteen.{given-same}
 use Rattle.theorems.proofs.Text.Taken.Texts.{taken-means as taken-reads, text-means, text-taken, valid-unsat, unsat-valid}
 
 -- where check takes a problem, decide can refuse it only for its buffers or its product
@@ -104,7 +103,10 @@ module _
   module _ (s : Script) (reads : scriptRead text ≡ given s) where
     taken-so : taken text (length problem) ≡ given s
     unfolding script-taken script-read
-    taken-so = script-taken .1 ∙ ap given (given-same (script-taken .0) s (sym (script-read .1) ∙ reads))
+    taken-so = go (script-taken .0) (script-taken .1) (script-read .1)
+      where
+        go : (r : Script) → taken text (length problem) ≡ given r → scriptRead text ≡ given r → taken text (length problem) ≡ given s
+        go r p q = cc
 
     written-so : written ≡ length (problemOfScript s)
     unfolding readAnswer

@@ -8,10 +8,14 @@ pub mod Commands
 pub mod Sound
 pub mod Constants
 pub mod Finishing
+pub mod Names
 pub mod Able
 pub mod Resolve
 pub mod RunTerms
 pub mod Complete
-pub mod Fourteen
+pub mod GoesOn
+pub mod Depth
+pub mod Told
+pub mod Answered
+pub mod Exactly
 pub mod Texts
-pub mod Fifteen

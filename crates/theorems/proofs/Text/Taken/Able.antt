@@ -16,6 +16,10 @@ use Rattle.definitions.specs.Text.Grammar.{Symbol, Head, declared, ite, equals,
 use Rattle.definitions.specs.Text.Reader.{Opened, Stage, exact, naming, commanding, declaring, finished, taking, giving, inside, heading, State, goes, start, added, put, unlessNot, symbolName, named, newNamed, closed, begun, stepAt, gave, step}
 use Rattle.definitions.specs.Text.Heads.{heads, inhabited, names, bare, bracketed}
 use Rattle.theorems.proofs.Text.Taken.Runs.{runs, first-passes}
+use Rattle.theorems.proofs.Text.Taken.Spelling.{spellable}
+use Rattle.theorems.proofs.Text.Taken.Lexed.{lexed}
+use Rattle.theorems.proofs.Text.Taken.Sound.{keep-run, start-inv}
+use Rattle.theorems.proofs.Text.Taken.Names.{state-names, state-spelled}
 use Rattle.theorems.proofs.Text.Taken.Finishing.{Finishes, Can, CanAll, CanAt, can-left, fin-at}
 
 -- what can be finished stays so
@@ -53,11 +57,11 @@ module _ (st y : State) (t : Token) where
 
   can-named : (o : Option (List ℕ)) → named st o ≡ some y → CanS y
   can-named none e = absurd (none≢some e)
-  can-named (some name) e = passes (newSort name) _ (omega arith, (omega arith, (omega arith, tt))) e
+  can-named (some name) e = passes (newSort name) _ (omega arith, refl, (omega arith, refl, (omega arith, refl, tt))) e
 
   can-new : (o : Option (List ℕ)) → newNamed st o ≡ some y → CanS y
   can-new none e = absurd (none≢some e)
-  can-new (some name) e = passes (newFunction cs-sig name) (goes st (exact opening (taking name 0))) (omega arith, tt) e
+  can-new (some name) e = passes (newFunction cs-sig name) (goes st (exact opening (taking name 0))) (omega arith, refl, tt) e
 
   can-commanded : (a b : Bool)
       → _≡_ {A = Option State}
@@ -73,7 +77,7 @@ module _ (st y : State) (t : Token) where
       → CanS y
   can-commanded true b e = comes (goes st declaring) tt e
   can-commanded false true e = comes (goes st (inside oneFormula end [])) ((refl, refl), tt) e
-  can-commanded false false e = passes (sameToken t (word (ascii "check-sat"))) (goes st (exact closing finished)) (omega arith, tt) e
+  can-commanded false false e = passes (sameToken t (word (ascii "check-sat"))) (goes st (exact closing finished)) (omega arith, refl, tt) e
 
   can-taking : (name : List ℕ) (k : ℕ) (b : Bool)
       → _≡_ {A = Option State}
@@ -94,8 +98,8 @@ module _ (st y : State) (t : Token) where
       ])
       (some y)
       → CanS y
-  can-giving name k true e = comes (gave st name k term) (omega arith, (omega arith, tt)) e
-  can-giving name k false e = passes (sameToken t (symbol BOOL)) (gave st name k formula) (omega arith, (omega arith, tt)) e
+  can-giving name k true e = comes (gave st name k term) (omega arith, refl, (omega arith, refl, tt)) e
+  can-giving name k false e = passes (sameToken t (symbol BOOL)) (gave st name k formula) (omega arith, refl, (omega arith, refl, tt)) e
 
   can-closed : (b : Bool) (w : Wanted) (row : Terms) (outer : List Opened) → CanAll cs-sig outer
       → _≡_ {A = Option State}
@@ -109,7 +113,7 @@ module _ (st y : State) (t : Token) where
       ])
       (some y)
       → CanS y
-  can-closed true w row [] c e = comes (added st (assert row)) (omega arith, tt) e
+  can-closed true w row [] c e = comes (added st (assert row)) (omega arith, refl, tt) e
   can-closed true w row (o ∷ os) c e =
       comes (goes st (inside (left (o .wanted)) (put (o .before) (o .head) row) os))
       (can-left cs-sig (o .wanted .must) (o .wanted .more) (c .0), c .1) e
@@ -151,7 +155,7 @@ module _ (st y : State) (t : Token) where
       (can-wanted cs-sig h (and-right (names cs-sig s t h && not (ready (wantedBy cs-sig h))) (all (inhabited cs-sig) (wantedBy cs-sig h .must)) q), (c, cs)) e
 
   can-at : (stage : Stage) → CanAt cs-sig stage → stepAt st stage t ≡ some y → CanS y
-  can-at (exact x then) c e = passes (sameToken x t) (goes st then) (c .1) e
+  can-at (exact x then) c e = passes (sameToken x t) (goes st then) (c .2) e
   can-at naming c e = can-named (symbolName t) e
   can-at commanding c e = can-commanded (sameToken t (word (ascii "declare-fun"))) (sameToken t (word (ascii "assert"))) e
   can-at declaring c e = can-new (symbolName t) e
@@ -179,8 +183,13 @@ can-run (u ∷ us) st y c e = go (step st u) refl e (λ s d e′. can-run us s y
     go (some s) p e′ rec = rec s (can-step st s u c p) e′
 
 pub can-start : CanS start
-can-start = (omega arith, (omega arith, (omega arith, (omega arith, (omega arith, (omega arith, tt))))))
+can-start =
+    (omega arith, refl, (omega arith, refl, (omega arith, refl, (omega arith, refl, (omega arith, refl, (omega arith, refl, tt))))))
 
--- every state that tokens lead to can be read out
-pub finishes : (us : List Token) (y : State) → runs start us ≡ some y → Finishes y
-finishes us y e = fin-at y (y .stage) (can-run us start y can-start e)
+-- every state that tokens of a text lead to can be read out, and so spelled
+pub finishes : (us : List Token) (y : State) → runs start us ≡ some y → all lexed us ≡ true → (all spellable us ≡ true) × Finishes y
+finishes us y e l =
+    let c = can-run us start y can-start e in
+    let i = keep-run us start y [] start-inv e in
+    let b = state-spelled (y .sortName) (y .commands) (y .stage) us i l in
+    (b, fin-at y (state-names (y .sortName) (y .commands) (y .stage) us c i b) (y .stage) c)

@@ -11,12 +11,12 @@ use lib.ListN.{length, length-append}
 use lib.Seq.{getD-append-seam}
 use lib.Dec.{eqb}
 use borrow.Author.Tests.{eqb-true, lt-ltb}
-use Rattle.definitions.specs.Lists.{snoc, any}
+use Rattle.definitions.specs.Lists.{snoc, any, all}
 use Rattle.definitions.specs.Problem.Ops.{Sort, term, formula, sameSort}
 use Rattle.theorems.proofs.Laws.Tests.{and-left, and-right, or-cases, or-left, or-right}
 use Rattle.theorems.proofs.Laws.Ops.{same-sort}
 use Rattle.definitions.specs.Text.Ascii.{ascii}
-use Rattle.definitions.specs.Text.Tokens.{symbol}
+use Rattle.definitions.specs.Text.Tokens.{symbol, barByte}
 use Rattle.definitions.specs.Text.Grammar.{Symbol, Head, declared, ite, equals, negation, conjunction, disjunction, implication, verum, falsum, noSymbol, symbolAt, wantedBy, ready}
 use Rattle.definitions.specs.Text.Heads.{firstWith, declaredFrom, heads, constant, inhabited, names, bare}
 use Rattle.theorems.proofs.Text.Taken.Runs.{token-same}
@@ -31,6 +31,10 @@ module _ {A : Type 0} (f : A → Bool) where
       by true p rec = (y, refl)
       by false p rec = rec p
 
+-- a symbol whose name may stand between bars
+abbrev pub namedInBars : Symbol → Bool
+namedInBars y = all barByte (y .name)
+
 module _ (sig : List Symbol) where
   -- a constant of the sort is named by its name
   abbrev plainly : List ℕ → Head → Bool
@@ -42,9 +46,15 @@ module _ (sig : List Symbol) where
       let result : y .result ≡ term = same-sort (y .result) term (and-right (eqb (y .arity) 0) (sameSort (y .result) term) c) in
       rw (e, lt-ltb k (length sig) l, result, token-same (symbol (y .name)), zero-arity) refl
 
-  constant-among : (pre ys : List Symbol) → sig ≡ pre ++ ys → any constant ys ≡ true → (name : List ℕ) × (any (plainly name) (declaredFrom (length pre) ys) ≡ true)
-  constant-among pre [] e c = absurd (false≢true c)
-  constant-among pre (y ∷ ys) e c = go (or-cases (constant y) (any constant ys) c) (constant-among (snoc pre y) ys (e ∙ sym (append-assoc pre (y ∷ []) ys)))
+  -- one that is found among symbols
+  abbrev Among : ℕ → List Symbol → Type 0
+  Among k ys = (name : List ℕ) × ((all barByte name ≡ true) × (any (plainly name) (declaredFrom k ys) ≡ true))
+
+  constant-among : (pre ys : List Symbol) → sig ≡ pre ++ ys → all namedInBars ys ≡ true → any constant ys ≡ true → Among (length pre) ys
+  constant-among pre [] e n c = absurd (false≢true c)
+  constant-among pre (y ∷ ys) e n c =
+      go (or-cases (constant y) (any constant ys) c)
+      (constant-among (snoc pre y) ys (e ∙ sym (append-assoc pre (y ∷ []) ys)) (and-right (namedInBars y) (all namedInBars ys) n))
     where
       at : symbolAt sig (length pre) ≡ y
       at = ap (λ (s : List Symbol). symbolAt s (length pre)) e ∙ getD-append-seam pre y ys noSymbol
@@ -52,26 +62,33 @@ module _ (sig : List Symbol) where
       inside-sig : length pre < length sig
       inside-sig = let l : length sig ≡ length pre + suc (length ys) = ap length e ∙ length-append pre (y ∷ ys) in omega arith
 
-      go : (constant y ≡ true) ⊎ (any constant ys ≡ true)
-          → (any constant ys ≡ true → (name : List ℕ) × (any (plainly name) (declaredFrom (length (snoc pre y)) ys) ≡ true))
-          → (name : List ℕ) × (any (plainly name) (declaredFrom (length pre) (y ∷ ys)) ≡ true)
-      go (inl p) rec =
-          (y .name, or-left (plainly (y .name) (declared (y .result) (length pre))) (any (plainly (y .name)) (declaredFrom (suc (length pre)) ys)) (constant-named (length pre) y inside-sig at p))
+      go : (constant y ≡ true) ⊎ (any constant ys ≡ true) → (any constant ys ≡ true → Among (length (snoc pre y)) ys) → Among (length pre) (y ∷ ys)
+      go (inl p) rec = (
+        y .name,
+        (
+          and-left (namedInBars y) (all namedInBars ys) n,
+          or-left (plainly (y .name) (declared (y .result) (length pre))) (any (plainly (y .name)) (declaredFrom (suc (length pre)) ys)) (constant-named (length pre) y inside-sig at p),
+        ),
+      )
       go (inr p) rec =
           let r = rec p in
           let l : length (snoc pre y) ≡ suc (length pre) = (let q : length (snoc pre y) ≡ length pre + 1 = length-append pre (y ∷ []) in omega arith) in (
             r .0,
-            or-right (plainly (r .0) (declared (y .result) (length pre))) (any (plainly (r .0)) (declaredFrom (suc (length pre)) ys))
-                (subst (λ (k : ℕ). any (plainly (r .0)) (declaredFrom k ys) ≡ true) l (r .1)),
+            (
+              r .1 .0,
+              or-right (plainly (r .0) (declared (y .result) (length pre))) (any (plainly (r .0)) (declaredFrom (suc (length pre)) ys))
+                  (subst (λ (k : ℕ). any (plainly (r .0)) (declaredFrom k ys) ≡ true) l (r .1 .1)),
+            ),
           )
 
-  -- some token is a bare term of a sort that has terms
-  pub bare-found : (s : Sort) → inhabited sig s ≡ true → (name : List ℕ) × ((h : Head) × (bare sig s (symbol name) ≡ some h))
-  bare-found formula e = (ascii "true", (verum, refl))
-  bare-found term e =
-      let c = constant-among [] sig refl e in
+  -- some token is a bare term of a sort that has terms, and it can be spelled if the declared names can
+  pub bare-found : all namedInBars sig ≡ true → (s : Sort) → inhabited sig s ≡ true
+      → (name : List ℕ) × ((all barByte name ≡ true) × ((h : Head) × (bare sig s (symbol name) ≡ some h)))
+  bare-found n formula e = (ascii "true", (refl, (verum, refl)))
+  bare-found n term e =
+      let c = constant-among [] sig refl n e in
       let f = plainly (c .0) in
       let o = or-right in
       let r = any-first f (heads sig) (
-      o (f (ite term)) _ (o (f (ite formula)) _ (o (f equals) _ (o (f negation) _ (o (f conjunction) _ (o (f disjunction) _ (o (f implication) _ (o (f verum) _ (o (f falsum) _ (c .1)))))))))) in
-      (c .0, (r .0, r .1))
+      o (f (ite term)) _ (o (f (ite formula)) _ (o (f equals) _ (o (f negation) _ (o (f conjunction) _ (o (f disjunction) _ (o (f implication) _ (o (f verum) _ (o (f falsum) _ (c .1 .1)))))))))) in
+      (c .0, (c .1 .0, (r .0, r .1)))

@@ -9,15 +9,17 @@ use mathlib.Core.Option.{Option, none, some}
 use lib.ListN.{length, replicate, length-replicate}
 use Rattle.definitions.specs.Lists.{all, any}
 use Rattle.definitions.specs.Problem.Ops.{Sort, term, formula}
-use Rattle.theorems.proofs.Laws.Tests.{and-left, and-right}
+use Rattle.theorems.proofs.Laws.Tests.{and-left, and-right, and-intro}
+use Rattle.theorems.proofs.Laws.All.{all-replicate}
 use Rattle.definitions.specs.Text.Ascii.{ascii, sameBytes}
-use Rattle.definitions.specs.Text.Tokens.{Token, opening, closing, nought, symbol, word, sameToken}
+use Rattle.definitions.specs.Text.Tokens.{Token, opening, closing, nought, symbol, word, barByte, sameToken}
 use Rattle.definitions.specs.Text.Grammar.{Symbol, Head, ite, equals, negation, conjunction, disjunction, implication, verum, falsum, Terms, end, assert, symbolsIn, Wanted, wantedBy, left, ready, CORE, BOOL, namesOf, newFunction}
 use Rattle.definitions.specs.Text.Reader.{Opened, Stage, exact, naming, commanding, declaring, finished, taking, giving, inside, heading, State, goes, added, put, gave, step, isFinished}
 use Rattle.definitions.specs.Text.Heads.{declaredFrom, inhabited, names}
 use Rattle.theorems.proofs.Text.Taken.Levels.{owed}
 use Rattle.theorems.proofs.Text.Taken.Runs.{same-bytes, token-same, runs, runs-step, first-here}
-use Rattle.theorems.proofs.Text.Taken.Constants.{bare-found}
+use Rattle.theorems.proofs.Text.Taken.Spelling.{spellable}
+use Rattle.theorems.proofs.Text.Taken.Constants.{namedInBars, bare-found}
 
 -- tokens that lead from a state to the end
 pub record Finishes (st : State) : Type 0 where
@@ -25,18 +27,25 @@ pub record Finishes (st : State) : Type 0 where
   pub last : State
   pub run : runs st rest ≡ some last
   pub done : isFinished (last .stage) ≡ true
+  pub spelled : all spellable rest ≡ true
 
-one-more : (st st′ : State) (t : Token) → step st t ≡ some st′ → Finishes st′ → Finishes st
-one-more st st′ t e f =
-    record { rest = t ∷ f .rest; last = f .last; run = runs-step st st′ t (f .rest) e ∙ f .run; done = f .done }
+one-more : (st st′ : State) (t : Token) → spellable t ≡ true → step st t ≡ some st′ → Finishes st′ → Finishes st
+one-more st st′ t b e f =
+    record {
+      rest = t ∷ f .rest;
+      last = f .last;
+      run = runs-step st st′ t (f .rest) e ∙ f .run;
+      done = f .done;
+      spelled = and-intro (spellable t) (all spellable (f .rest)) b (f .spelled);
+    }
 
 fin-commanding : (st : State) → Finishes (goes st commanding)
 unfolding step
-fin-commanding st = record { rest = word (ascii "check-sat") ∷ closing ∷ []; last = goes st finished; run = refl; done = refl }
+fin-commanding st = record { rest = word (ascii "check-sat") ∷ closing ∷ []; last = goes st finished; run = refl; done = refl; spelled = refl }
 
-fin-exact : (st : State) (x : Token) (then : Stage) → Finishes (goes st then) → Finishes (goes st (exact x then))
+fin-exact : (st : State) (x : Token) (then : Stage) → spellable x ≡ true → Finishes (goes st then) → Finishes (goes st (exact x then))
 unfolding step
-fin-exact st x then f = one-more (goes st (exact x then)) (goes st then) x (rw (token-same x) refl) f
+fin-exact st x then b f = one-more (goes st (exact x then)) (goes st then) x b (rw (token-same x) refl) f
 
 -- a name that is longer than those that are taken is new
 abbrev total : List (List ℕ) → ℕ
@@ -64,25 +73,25 @@ unfolding step
 fin-giving st name k = go (sameToken (symbol BOOL) (symbol (st .sortName))) refl
   where
     after : (s : Sort) → Finishes (gave st name k s)
-    after s = fin-exact (gave st name k s) closing (exact opening commanding) (fin-exact (gave st name k s) opening commanding (fin-commanding (gave st name k s)))
+    after s = fin-exact (gave st name k s) closing (exact opening commanding) refl (fin-exact (gave st name k s) opening commanding refl (fin-commanding (gave st name k s)))
 
     gives : Bool → Option State
     gives b = elim b [ true ↦ some (gave st name k term) | false ↦ some (gave st name k formula) ]
 
     go : (b : Bool) → sameToken (symbol BOOL) (symbol (st .sortName)) ≡ b → Finishes (goes st (giving name k))
-    go true p = one-more (goes st (giving name k)) (gave st name k term) (symbol BOOL) (ap gives p) (after term)
-    go false p = one-more (goes st (giving name k)) (gave st name k formula) (symbol BOOL) (ap gives p) (after formula)
+    go true p = one-more (goes st (giving name k)) (gave st name k term) (symbol BOOL) refl (ap gives p) (after term)
+    go false p = one-more (goes st (giving name k)) (gave st name k formula) (symbol BOOL) refl (ap gives p) (after formula)
 
 fin-taking : (st : State) (name : List ℕ) (k : ℕ) → Finishes (goes st (taking name k))
 unfolding step
-fin-taking st name k = one-more (goes st (taking name k)) (goes st (giving name k)) closing refl (fin-giving st name k)
+fin-taking st name k = one-more (goes st (taking name k)) (goes st (giving name k)) closing refl refl (fin-giving st name k)
 
 fin-declaring : (st : State) → Finishes (goes st declaring)
 unfolding step
 fin-declaring st =
     let name : List ℕ = replicate (suc (total (CORE ++ namesOf (symbolsIn (st .commands))))) 97 in
-    one-more (goes st declaring) (goes st (exact opening (taking name 0))) (symbol name) (rw (fresh-new (symbolsIn (st .commands))) refl)
-    (fin-exact st opening (taking name 0) (fin-taking st name 0))
+    one-more (goes st declaring) (goes st (exact opening (taking name 0))) (symbol name) (all-replicate barByte (suc (total (CORE ++ namesOf (symbolsIn (st .commands))))) 97 refl) (rw (fresh-new (symbolsIn (st .commands))) refl)
+    (fin-exact st opening (taking name 0) refl (fin-taking st name 0))
 
 fin-naming : (st : State) → Finishes (goes st naming)
 unfolding step
@@ -92,9 +101,10 @@ fin-naming st =
       last = record { sortName = ascii "U"; commands = st .commands; stage = finished };
       run = refl;
       done = refl;
+      spelled = refl;
     }
 
--- the sorts that a list still wants all have terms; and few brackets are open between commands
+-- the sorts that a list still wants all have terms; between commands few brackets are open and what comes can be spelled
 abbrev pub optional : Option Sort → List Sort
 optional none = []
 optional (some s) = s ∷ []
@@ -107,7 +117,7 @@ CanAll sig [] = Unit {0}
 CanAll sig (o ∷ os) = Can sig (o .wanted) × CanAll sig os
 
 abbrev pub CanAt : List Symbol → Stage → Type 0
-CanAt sig (exact x then) = (owed (exact x then) ≤ 65) × CanAt sig then
+CanAt sig (exact x then) = (owed (exact x then) ≤ 65) × (spellable x ≡ true) × CanAt sig then
 CanAt sig naming = Unit {0}
 CanAt sig commanding = Unit {0}
 CanAt sig declaring = Unit {0}
@@ -121,7 +131,7 @@ pub can-left : (sig : List Symbol) (must : List Sort) (more : Option Sort) → C
 can-left sig [] more c = c
 can-left sig (s ∷ ss) more c = (and-right (inhabited sig s) (all (inhabited sig) ss) (c .0), c .1)
 
-module _ (st : State) where
+module _ (st : State) (in-bars : all namedInBars (symbolsIn (st .commands)) ≡ true) where
   abbrev sig : List Symbol
   sig = symbolsIn (st .commands)
 
@@ -134,9 +144,9 @@ module _ (st : State) where
   unfolding step
   fill [] more outer c k row = k row
   fill (s ∷ ss) more outer c k row =
-      let b = bare-found sig s (and-left (inhabited sig s) (all (inhabited sig) ss) c) in
-      let h = b .1 .0 in
-      one-more (within (s ∷ ss) more row outer) (within ss more (put row h end) outer) (symbol (b .0)) (ap (takes row) (b .1 .1))
+      let b = bare-found sig in-bars s (and-left (inhabited sig s) (all (inhabited sig) ss) c) in
+      let h = b .1 .1 .0 in
+      one-more (within (s ∷ ss) more row outer) (within ss more (put row h end) outer) (symbol (b .0)) (b .1 .0) (ap (takes row) (b .1 .1 .1))
       (fill ss more outer (and-right (inhabited sig s) (all (inhabited sig) ss) c) k (put row h end))
     where
       takes : Terms → Option Head → Option State
@@ -148,11 +158,11 @@ module _ (st : State) where
   unfolding step
   fin-inside [] must more row c cs =
       fill must more [] c
-      (λ row. one-more (within [] more row []) (added st (assert row)) closing refl (fin-exact (added st (assert row)) opening commanding (fin-commanding (added st (assert row))))) row
+      (λ row. one-more (within [] more row []) (added st (assert row)) closing refl refl (fin-exact (added st (assert row)) opening commanding refl (fin-commanding (added st (assert row))))) row
   fin-inside (o ∷ os) must more row c cs =
       fill must more (o ∷ os) c
       (λ row.
-      one-more (within [] more row (o ∷ os)) (goes st (inside (left (o .wanted)) (put (o .before) (o .head) row) os)) closing refl
+      one-more (within [] more row (o ∷ os)) (goes st (inside (left (o .wanted)) (put (o .before) (o .head) row) os)) closing refl refl
       (fin-inside os (left (o .wanted) .must) (o .wanted .more) (put (o .before) (o .head) row) (can-left sig (o .wanted .must) (o .wanted .more) (cs .0) .0) (cs .1))) row
 
   fin-heading : (s : Sort) (w : Wanted) (row : Terms) (outer : List Opened) → inhabited sig s ≡ true → Can sig w → CanAll sig outer
@@ -160,11 +170,11 @@ module _ (st : State) where
   unfolding step
   fin-heading formula w row outer e c cs =
       one-more (goes st (heading formula w row outer))
-      (within (formula ∷ []) none end (record { head = negation; wanted = w; before = row } ∷ outer)) (symbol (ascii "not")) refl
+      (within (formula ∷ []) none end (record { head = negation; wanted = w; before = row } ∷ outer)) (symbol (ascii "not")) refl refl
       (fin-inside (record { head = negation; wanted = w; before = row } ∷ outer) (formula ∷ []) none end refl (c, cs))
   fin-heading term w row outer e c cs =
       let o : Opened = record { head = ite term; wanted = w; before = row } in
-      one-more (goes st (heading term w row outer)) (within (formula ∷ term ∷ term ∷ []) none end (o ∷ outer)) (symbol (ascii "ite"))
+      one-more (goes st (heading term w row outer)) (within (formula ∷ term ∷ term ∷ []) none end (o ∷ outer)) (symbol (ascii "ite")) refl
       (ap opens (first-here (λ h. names sig term (symbol (ascii "ite")) h && not (ready (wantedBy sig h)) && all (inhabited sig) (wantedBy sig h .must)) (ite term)
       (ite formula ∷ equals ∷ negation ∷ conjunction ∷ disjunction ∷ implication ∷ verum ∷ falsum ∷ declaredFrom 0 sig) (rw e refl)))
       (fin-inside (o ∷ outer) (formula ∷ term ∷ term ∷ []) none end (rw e refl) (c, cs))
@@ -174,11 +184,11 @@ module _ (st : State) where
           elim o [ none ↦ none | some h ↦ some (goes st (inside (wantedBy sig h) end (record { head = h; wanted = w; before = row } ∷ outer))) ]
 
   pub fin-at : (stage : Stage) → CanAt sig stage → Finishes (goes st stage)
-  fin-at (exact x then) c = fin-exact st x then (fin-at then (c .1))
+  fin-at (exact x then) c = fin-exact st x then (c .1) (fin-at then (c .2))
   fin-at naming c = fin-naming st
   fin-at commanding c = fin-commanding st
   fin-at declaring c = fin-declaring st
-  fin-at finished c = record { rest = []; last = goes st finished; run = refl; done = refl }
+  fin-at finished c = record { rest = []; last = goes st finished; run = refl; done = refl; spelled = refl }
   fin-at (taking name k) c = fin-taking st name k
   fin-at (giving name k) c = fin-giving st name k
   fin-at (inside w row outer) c = fin-inside outer (w .must) (w .more) row (c .0 .0) (c .1)

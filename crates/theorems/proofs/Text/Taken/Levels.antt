@@ -8,35 +8,11 @@ use lib.ListN.{length, replicate}
 use Rattle.definitions.specs.Lists.{snoc}
 use Rattle.definitions.specs.Problem.Ops.{Sort, term, formula}
 use Rattle.definitions.specs.Text.Ascii.{ascii}
-use Rattle.definitions.specs.Text.Tokens.{Token, opening, closing, nought, wrong, symbol, word}
+use Rattle.definitions.specs.Text.Tokens.{Token, opening, closing, symbol, word}
 use Rattle.definitions.specs.Text.Grammar.{Symbol, Head, declared, ite, equals, negation, conjunction, disjunction, implication, verum, falsum, Terms, end, call, Command, declare, assert, Wanted, symbolsIn, after, headToken, termWritten, termsWritten, sortWritten, commandWritten, commandsWritten}
 use Rattle.definitions.specs.Text.Reader.{Opened, Stage, exact, naming, commanding, declaring, finished, taking, giving, inside, heading, levelOf}
+use Rattle.theorems.specs.Texts.{opensOne, closesOne, opens, closes}
 use Rattle.theorems.proofs.Text.Taken.Invariant.{base, openWritten, Inv, DECLARE, ASSERT}
-
--- how many brackets open, and how many close, among tokens
-abbrev pub opensOne : Token → ℕ
-opensOne opening = 1
-opensOne closing = 0
-opensOne nought = 0
-opensOne wrong = 0
-opensOne (symbol name) = 0
-opensOne (word name) = 0
-
-abbrev pub closesOne : Token → ℕ
-closesOne opening = 0
-closesOne closing = 1
-closesOne nought = 0
-closesOne wrong = 0
-closesOne (symbol name) = 0
-closesOne (word name) = 0
-
-abbrev pub opens : List Token → ℕ
-opens [] = 0
-opens (t ∷ ts) = opensOne t + opens ts
-
-abbrev pub closes : List Token → ℕ
-closes [] = 0
-closes (t ∷ ts) = closesOne t + closes ts
 
 pub opens-append : (ts us : List Token) → opens (ts ++ us) ≡ opens ts + opens us
 opens-append [] us = omega arith

@@ -15,7 +15,7 @@ use Rattle.definitions.specs.Lists.{any, all}
 use Rattle.definitions.specs.Text.Ascii.{ascii, sameBytes}
 use Rattle.definitions.specs.Text.Tokens.{Token, opening, closing, nought, wrong, symbol, word, Placed, isOf, within, whiteSpace, digit, wordByte, barByte, RESERVED, blank, run, barred, Lexeme, lexeme, wordToken, barToken, tokenAt, tokensFrom, tokensOf}
 use Rattle.theorems.specs.Texts.{isByte, plainTokens}
-use Rattle.theorems.proofs.Laws.Tests.{and-left, and-right, and-intro, or-cases}
+use Rattle.theorems.proofs.Laws.Tests.{and-left, and-right, or-cases}
 use Rattle.theorems.proofs.Laws.All.{all-append, all-weaker, any-all}
 use Rattle.theorems.proofs.Text.Taken.Runs.{same-bytes}
 
