@@ -3,3 +3,4 @@ pub mod Searched
 pub mod Classes
 pub mod Called
 pub mod Texts
+pub mod Origins

@@ -6,6 +6,7 @@ pub mod Reading
 pub mod Sizes
 pub mod Twins
 pub mod Again
+pub mod Origins
 pub mod Bytes
 pub mod Sorted
 pub mod SortedTerms

@@ -3,11 +3,11 @@
 use mathlib.Core.Path.{_≡_, refl, sym, ap, _∙_}
 use Prim.Native.Nat.{ℕ, _+_, _<_}
 use native.Mathlib.Omega.{arith}
-use mathlib.Core.List.{List, [], _++_, append-assoc, append-nil}
+use mathlib.Core.List.{List, [], _∷_, _++_, append-assoc, append-nil}
 use mathlib.Core.Option.{Option, none, some}
 use lib.ListN.{length, length-append, List·getD-append}
-use Rattle.definitions.specs.Problem.Node.{Node, node, noNode}
-use Rattle.definitions.specs.Text.Nodes.{Tree, absent, tree, Laid, laid, placeOf, foundOr, ask, lay}
+use Rattle.definitions.specs.Problem.Node.{Node, node, noNode, plain}
+use Rattle.definitions.specs.Text.Nodes.{Tree, absent, tree, Laid, laid, placeOf, foundOr, ask, lay, layAll, joined, nodesOfTrees}
 use Rattle.theorems.proofs.Text.Meant.Shared.{ask-given, NoTwins, scan-some, scan-none}
 
 -- a table only grows
@@ -28,6 +28,32 @@ lay-extends (tree op k a b c) t =
           ∙ ap (λ (w : List Node). w ++ Z .0) (Y .1 ∙ ap (λ (w : List Node). w ++ Y .0) (X .1) ∙ append-assoc t (X .0) (Y .0))
           ∙ append-assoc t (X .0 ++ Y .0) (Z .0))
           ∙ append-assoc t (X .0 ++ Y .0 ++ Z .0) (g .more),
+    )
+
+pub all-extends : (xs : List Tree) (t : List Node) → (more : List Node) × (layAll xs t ≡ t ++ more)
+all-extends [] t = ([], sym (append-nil t))
+all-extends (x ∷ xs) t =
+    let X = lay-extends x t in
+    let XS = all-extends xs (lay x t .table) in
+    (X .0 ++ XS .0, XS .1 ∙ ap (λ (w : List Node). w ++ XS .0) (X .1) ∙ append-assoc t (X .0) (XS .0))
+
+-- what is laid for the first asserts is a first part of the whole table
+all-append : (xs ys : List Tree) (t : List Node) → layAll (xs ++ ys) t ≡ layAll ys (layAll xs t)
+all-append [] ys t = refl
+all-append (x ∷ xs) ys t = all-append xs ys (lay x t .table)
+
+pub nodes-extend : (xs ys : List Tree) → (more : List Node) × (nodesOfTrees (xs ++ ys) ≡ layAll xs [] ++ more)
+nodes-extend xs ys =
+    let zs : List Tree = xs ++ ys in
+    let l : Laid = lay (joined zs) (layAll zs []) in
+    let n : Node = plain 3 (l .number) 0 0 in
+    let Y = all-extends ys (layAll xs []) in
+    let J = lay-extends (joined zs) (layAll zs []) in (
+      Y .0 ++ (J .0 ++ (n ∷ [])),
+      ap (λ (w : List Node). w ++ (n ∷ []))
+          (J .1 ∙ ap (λ (w : List Node). w ++ J .0) (all-append xs ys [] ∙ Y .1) ∙ append-assoc (layAll xs []) (Y .0) (J .0))
+          ∙ append-assoc (layAll xs []) (Y .0 ++ J .0) (n ∷ [])
+          ∙ ap (λ (w : List Node). layAll xs [] ++ w) (append-assoc (Y .0) (J .0) (n ∷ [])),
     )
 
 -- a node that stands is found where it stands
