@@ -14,12 +14,12 @@ use Rattle.definitions.specs.Bytes.{EQP, twoAt}
 use Rattle.definitions.specs.Problem.Node.{Node, node, noNode, plain, tableBytes, problemBytes}
 use Rattle.definitions.specs.Problem.Ops.{Sort, term, formula, sameSort, sortOf, opOf, arity, symbolRight, isFunction, isPredicate}
 use Rattle.definitions.specs.Problem.Check.{symbolCount, nodeCount, symbolsOf, nodesOf, stands, symbolByteRight, firstWrong, termAsked, functionsIn, predicatesIn, refuseIf, refuseAt, refusalOf}
-use Rattle.theorems.proofs.Fits.{length-tableBytes}
+use Rattle.theorems.proofs.Tables.Back.{Low, two-back}
 use Rattle.theorems.proofs.Laws.Tests.{and-left, and-right, and-intro, or-left, or-right, none≢some}
 use Rattle.definitions.specs.Text.Grammar.{Symbol, Terms, end, call, Command, declare, assert, Script, symbolsIn, assertsIn, noSymbol, symbolAt, termsRight, oneFormula, newFunction, newSort, commandsRight, scriptRight}
 use Rattle.definitions.specs.Text.Nodes.{Tree, operand, treesOf, Laid, lay, layAll, joined, assertTrees, ended, nodesOfScript, bytesOfScript, byteOf, symbolBytes, problemOfScript, limits, limitsOfScript}
 use Rattle.theorems.proofs.Text.Meant.Reading.{Small, byte-at, small-snoc, prefix-agrees}
-use Rattle.theorems.proofs.Text.Meant.Bytes.{two-back, symbols-back, nodes-read, low}
+use Rattle.theorems.proofs.Text.Meant.Bytes.{problem-length, symbols-back, nodes-read, low}
 use Rattle.theorems.proofs.Text.Meant.Sorted.{stood-lay, lay-wrong, AllSorted, all-wrong, wrong-snoc}
 use Rattle.theorems.proofs.Text.Meant.SortedTerms.{One, AllOne, one-left4, row-one}
 
@@ -123,7 +123,7 @@ neither : (a b c : Bool) → a ≡ false → b ≡ false → c ≡ false → a |
 neither a b c p q r = rw (p, q, r) refl
 
 -- bytes of a table that is right, within the limits, whose last node is a formula
-bytes-taken : (symbols : List ℕ) (t : List Node) → WithinLimits symbols t → 0 < length t → ((k : ℕ) → k < length t → (node t k .a < 65536) × (node t k .b < 65536) × (node t k .c < 65536))
+bytes-taken : (symbols : List ℕ) (t : List Node) → WithinLimits symbols t → 0 < length t → ((k : ℕ) → k < length t → Low (node t k))
     → firstFailing symbolByteRight 0 symbols ≡ none → firstWrong symbols [] t ≡ none → termAsked t ≡ false → refusalOf (problemBytes symbols t) ≡ none
 unfolding refusalOf
 bytes-taken symbols t w some-nodes lows bytes right asked =
@@ -132,7 +132,7 @@ bytes-taken symbols t w some-nodes lows bytes right asked =
     let sb = symbols-back symbols t in
     let nb = nodes-read symbols t (omega arith) lows in
     let n : nodeCount s ≡ length t = two-back (length t) (omega arith) in
-    let len : length s ≡ 8 + length symbols + 8 * length t = (let x = length-append symbols (tableBytes t) in let y = length-tableBytes t in omega arith) in
+    let len : length s ≡ 8 + length symbols + 8 * length t = problem-length symbols t in
     none-holds (ltb (length s) 8) (not (stands s 0 EQP)) (not (eqb (twoAt s 3) 1)) (ltb 32 (symbolCount s) || eqb (nodeCount s) 0 || ltb 256 (nodeCount s))
     (not (eqb (length s) (8 + symbolCount s + 8 * nodeCount s))) (termAsked (nodesOf s)) (ltb 24 (functionsIn (nodesOf s))) (ltb 16 (predicatesIn (nodesOf s)))
     (firstFailing symbolByteRight 0 (symbolsOf s)) (firstWrong (symbolsOf s) [] (nodesOf s)) (le-ltb (length s) 8 (omega arith)) refl refl

@@ -17,64 +17,14 @@ use Rattle.definitions.specs.Problem.Node.{Node, node, nodeAt, nodesAt, nodeByt
 use Rattle.definitions.specs.Problem.Check.{nodeCount, symbolsOf, nodesOf, functionsIn, predicatesIn, refuseIf}
 use Rattle.definitions.specs.Logic.{Interpretation, values, truthAt, holds}
 use Rattle.theorems.proofs.Laws.Tests.{none≢some}
+use Rattle.theorems.proofs.Fits.{length-tableBytes}
+use Rattle.theorems.proofs.Tables.Back.{Low, two-back, nodes-after, nodes-back}
 use Rattle.definitions.specs.Text.Grammar.{Script, scriptRight, assertsIn}
 use Rattle.definitions.specs.Text.Meaning.{assertsTrue}
 use Rattle.definitions.specs.Text.Nodes.{Tree, absent, tree, placeOf, foundOr, ask, lay, layAll, joined, assertTrees, ended, nodesOfScript, bytesOfScript, problemOfScript, limits, limitsOfScript}
 use Rattle.theorems.proofs.Text.Meant.Shared.{ask-given, last-or-before, before-same, last-is}
 use Rattle.theorems.proofs.Text.Meant.Again.{lay-extends}
 use Rattle.theorems.proofs.Text.Meant.Reading.{nodes-mean}
-
--- operands that two bytes hold
-abbrev Low : Node → Type 0
-Low n = (n .a < 65536) × (n .b < 65536) × (n .c < 65536)
-
--- read back from the bytes: these laws are those of the base's ranges/TableBack
-pub two-back : (x : ℕ) → x < 65536 → x % 256 + 256 * (x / 256 % 256) ≡ x
-two-back x h = omega arith
-
--- the eight bytes of a node
-node-back : (n : Node) → Low n → (rest : List ℕ) → nodeAt (nodeBytes n ++ rest) 0 ≡ n
-node-back n f rest =
-    λ i.
-    record {
-      op = n .op;
-      sym = n .sym;
-      a = two-back (n .a) (f .0) i;
-      b = two-back (n .b) (f .1) i;
-      c = two-back (n .c) (f .2) i;
-    }
-
--- what stands after some bytes is read at places after them
-module _ (p xs : List ℕ) where
-  byte-after : (i j : ℕ) → j ≡ length p + i → byteAt (p ++ xs) j ≡ byteAt xs i
-  byte-after i j e = ap (byteAt (p ++ xs)) e ∙ getD-append-add p xs i 0
-
-  two-after : (i j : ℕ) → j ≡ length p + i → twoAt (p ++ xs) j ≡ twoAt xs i
-  two-after i j e = ap₂ (λ a b. a + 256 * b) (byte-after i j e) (byte-after (i + 1) (j + 1) (omega arith))
-
-  node-after : (i j : ℕ) → j ≡ length p + i → nodeAt (p ++ xs) j ≡ nodeAt xs i
-  node-after i j e =
-      λ k.
-      record {
-        op = byte-after i j e k;
-        sym = byte-after (i + 1) (j + 1) (omega arith) k;
-        a = two-after (i + 2) (j + 2) (omega arith) k;
-        b = two-after (i + 4) (j + 4) (omega arith) k;
-        c = two-after (i + 6) (j + 6) (omega arith) k;
-      }
-
-  nodes-after : (i j m : ℕ) → j ≡ length p + i → nodesAt (p ++ xs) j m ≡ nodesAt xs i m
-  nodes-after i j zero e = refl
-  nodes-after i j (suc m) e =
-      ap₂ {C = List Node} (λ n ns. n ∷ ns) (node-after i j e) (nodes-after (i + 8) (j + 8) m (omega arith))
-
-nodes-back : (t : List Node) → ((k : ℕ) → k < length t → Low (node t k)) → (rest : List ℕ) → nodesAt (tableBytes t ++ rest) 0 (length t) ≡ t
-nodes-back [] f rest = refl
-nodes-back (n ∷ t) f rest =
-    let after = tableBytes t ++ rest in
-    ap (λ s. nodesAt s 0 (suc (length t))) (append-assoc (nodeBytes n) (tableBytes t) rest)
-    ∙ ap₂ {C = List Node} (λ m ms. m ∷ ms) (node-back n (f 0 (omega arith)) after)
-    (nodes-after (nodeBytes n) after 0 (0 + 8) (length t) refl ∙ nodes-back t (λ k h. f (suc k) (omega arith)) rest)
 
 -- the operands of every node are at most the count of nodes
 abbrev Small : ℕ → Node → Type 0
@@ -165,6 +115,14 @@ nodes-read symbols t h f =
     ∙ nodes-after front (tableBytes t) 0 (8 + length symbols) (length t) place
     ∙ ap (λ (xs : List ℕ). nodesAt xs 0 (length t)) (sym (append-nil (tableBytes t)))
     ∙ nodes-back t f []
+
+-- the length of a problem: its header, its symbols and its nodes
+pub problem-length : (symbols : List ℕ) (t : List Node) → length (problemBytes symbols t) ≡ 8 + length symbols + 8 * length t
+problem-length symbols t = let x = length-append symbols (tableBytes t) in let y = length-tableBytes t in omega arith
+
+pub script-length : (s : Script) → length (problemOfScript s) ≡ 8 + length (bytesOfScript s) + 8 * length (nodesOfScript s)
+unfolding problemOfScript
+script-length s = problem-length (bytesOfScript s) (nodesOfScript s)
 
 -- within the limits there are at most 256 nodes
 pub few-nodes : (symbols : List ℕ) (t : List Node) → limits symbols t ≡ none → length t ≤ 256

@@ -18,27 +18,9 @@ use Rattle.definitions.specs.Logic.{Interpretation, Value, number, valueAt, nod
 use Rattle.theorems.proofs.Laws.Tests.{and-left, and-right, some-same, none≢some, split}
 use Rattle.theorems.proofs.Laws.Grown.{grown-prefix, length-grown}
 use Rattle.theorems.proofs.Laws.Ops.{AllBelow}
+use Rattle.theorems.proofs.Elimination.Repeats.{same-node, node-same}
 use Rattle.theorems.proofs.Tables.Fixed.{node-same-value, value-fixed}
 use Rattle.definitions.specs.Text.Nodes.{Laid, placeOf, foundOr, ask}
-
--- nodes that are the same in all five fields are equal (as in the base's Elimination.Repeats, where it is private)
-pub same-node : (m n : Node) → same m n ≡ true → m ≡ n
-same-node m n e =
-    let e4 = and-left (eqb (m .op) (n .op) && eqb (m .sym) (n .sym) && eqb (m .a) (n .a) && eqb (m .b) (n .b)) (eqb (m .c) (n .c)) e in
-    let e3 = and-left (eqb (m .op) (n .op) && eqb (m .sym) (n .sym) && eqb (m .a) (n .a)) (eqb (m .b) (n .b)) e4 in
-    let e2 = and-left (eqb (m .op) (n .op) && eqb (m .sym) (n .sym)) (eqb (m .a) (n .a)) e3 in
-    let o = eqb-true (m .op) (n .op) (and-left (eqb (m .op) (n .op)) (eqb (m .sym) (n .sym)) e2) in
-    let s = eqb-true (m .sym) (n .sym) (and-right (eqb (m .op) (n .op)) (eqb (m .sym) (n .sym)) e2) in
-    let a = eqb-true (m .a) (n .a) (and-right (eqb (m .op) (n .op) && eqb (m .sym) (n .sym)) (eqb (m .a) (n .a)) e3) in
-    let b = eqb-true (m .b) (n .b) (and-right (eqb (m .op) (n .op) && eqb (m .sym) (n .sym) && eqb (m .a) (n .a)) (eqb (m .b) (n .b)) e4) in
-    let c = eqb-true (m .c) (n .c) (and-right (eqb (m .op) (n .op) && eqb (m .sym) (n .sym) && eqb (m .a) (n .a) && eqb (m .b) (n .b)) (eqb (m .c) (n .c)) e) in
-    λ i. record { op = o i; sym = s i; a = a i; b = b i; c = c i }
-
-node-same : (m n : Node) → m ≡ n → same m n ≡ true
-node-same m n e = subst (λ (x : Node). same m x ≡ true) e (self m)
-  where
-    self : (m : Node) → same m m ≡ true
-    self m = simp (eq-eqb (m .op) (m .op) refl, eq-eqb (m .sym) (m .sym) refl, eq-eqb (m .a) (m .a) refl, eq-eqb (m .b) (m .b) refl, eq-eqb (m .c) (m .c) refl)
 
 -- where a scan finds an equal node, and what it says where it finds none
 pub record Stands (n : Node) (t : List Node) (i k : ℕ) : Type 0 where
