@@ -7,6 +7,7 @@ pub mod Sizes
 pub mod Twins
 pub mod Again
 pub mod Origins
+pub mod Heights
 pub mod Bytes
 pub mod Sorted
 pub mod SortedTerms

@@ -3,7 +3,7 @@
 use mathlib.Core.Path.{_≡_, refl, sym, ap, ap₂, _∙_, subst}
 use Prim.Native.Nat.{ℕ, zero, suc, _+_, _-_, _%_, _<_, _≤_}
 use native.Mathlib.Omega.{arith}
-use mathlib.Core.Bool.{Bool, true, not, _&&_, false≢true}
+use mathlib.Core.Bool.{Bool, true, false, not, _&&_, false≢true}
 use mathlib.Core.List.{List, [], _∷_, _++_, map, append-assoc}
 use lib.ListN.{length, getD, replicate, length-append, length-replicate, List·getD-append}
 use lib.Seq.{getD-append-seam}
@@ -119,6 +119,10 @@ small-snoc [] y small h zero l = h
 small-snoc [] y small h (suc k) l = absurd (omega arith)
 small-snoc (x ∷ xs) y small h zero l = small 0 (omega arith)
 small-snoc (x ∷ xs) y small h (suc k) l = small-snoc xs y (λ j m. small (suc j) (omega arith)) h k (omega arith)
+
+-- an interpretation, where one is asked for and any will do
+pub anything : Interpretation
+anything = record { function = λ k xs. 0; predicate = λ k xs. false }
 
 module _ (I : Interpretation) where
   -- one asserted term

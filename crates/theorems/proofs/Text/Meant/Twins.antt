@@ -7,14 +7,13 @@ use mathlib.Core.Bool.{true, false}
 use mathlib.Core.List.{List, [], _∷_}
 use lib.ListN.{length}
 use Rattle.definitions.specs.Problem.Node.{Node, node, plain}
-use Rattle.definitions.specs.Logic.{Interpretation}
 use Rattle.theorems.proofs.Laws.Tests.{and-right}
 use Rattle.definitions.specs.Text.Grammar.{Script, symbolsIn, assertsIn, newSort, commandsRight, scriptRight}
 use Rattle.definitions.specs.Text.Nodes.{Tree, pair, leftward, Laid, lay, layAll, joined, assertTrees, ended, nodesOfScript, symbolBytes}
 use Rattle.theorems.proofs.Text.Meant.Shared.{Earlier, NoTwins, snoc-twins}
 use Rattle.theorems.proofs.Text.Meant.Laying.{AllFull, lay-right, all-earlier, lay-twins, all-twins}
 use Rattle.theorems.proofs.Text.Meant.Paired.{Good}
-use Rattle.theorems.proofs.Text.Meant.Reading.{asserted, full-of, joined-good}
+use Rattle.theorems.proofs.Text.Meant.Reading.{anything, asserted, full-of, joined-good}
 use Rattle.theorems.proofs.Text.Meant.Sizes.{nodeSize, sizes, size, Within, treeSize, lay-sized, size-fixed}
 
 module _ (symbols : List ℕ) where
@@ -60,9 +59,6 @@ module _ (symbols : List ℕ) where
           size-fixed symbols (l .table) earlier k h ∙ ap (nodeSize symbols (sizes symbols (l .table))) q in
           let small = w k h in
           omega arith
-
-anything : Interpretation
-anything = record { function = λ k xs. 0; predicate = λ k xs. false }
 
 pub script-twins : (s : Script) → scriptRight s ≡ true → NoTwins (nodesOfScript s)
 unfolding scriptRight nodesOfScript
