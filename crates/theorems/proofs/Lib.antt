@@ -17,3 +17,4 @@ pub mod Growing
 pub mod Called
 pub mod Top
 pub mod HostTop
+pub mod Text

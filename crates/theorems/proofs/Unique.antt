@@ -26,6 +26,7 @@ use Rattle.definitions.specs.Operations.Readings.{
   measuredRead,
   rangesRead,
   decisionRead,
+  readingRead,
 }
 use Rattle.definitions.specs.Operations.Promises.{
   CheckPromise,
@@ -33,6 +34,8 @@ use Rattle.definitions.specs.Operations.Promises.{
   RangesPromise,
   DecidePromise,
   HostPromise,
+  ReadPromise,
+  HostReadPromise,
 }
 use Rattle.definitions.specs.declared.Refusal.{Refusal}
 use Rattle.definitions.specs.declared.Refusal.the-variants.{
@@ -58,6 +61,7 @@ use Rattle.definitions.specs.declared.Eliminated.{Eliminated}
 use Rattle.definitions.specs.declared.Measured.{Measured}
 use Rattle.definitions.specs.declared.Ranges.{Ranges}
 use Rattle.definitions.specs.declared.Decision.{Decision}
+use Rattle.definitions.specs.declared.Reading.{Reading}
 
 -- a reading that can be undone tells its values apart
 apart : {A B : Type 0} (read : A → B) (undo : B → A) → ((x : A) → undo (read x) ≡ x) → (x y : A) → read x ≡ read y → x ≡ y
@@ -148,12 +152,23 @@ decision-back (Decision.Falsified t p w) = refl
 decision-back (Decision.Stopped t p) = refl
 decision-back (Decision.Refused r) = ap Decision.Refused (refusal-back r)
 
+abbrev readingNamed : Answer ℕ → Reading
+readingNamed (refused r) = Reading.Refused (refusalNamed r)
+readingNamed (given written) = Reading.Problem written
+
+reading-back : (r : Reading) → readingNamed (readingRead r) ≡ r
+reading-back (Reading.Problem written) = refl
+reading-back (Reading.Refused r) = ap Reading.Refused (refusal-back r)
+
 -- each reading tells its answers apart
 pub refusal-apart : (r q : Refusal) → refusalRead r ≡ refusalRead q → r ≡ q
 refusal-apart = apart refusalRead refusalNamed refusal-back
 
 pub decision-apart : (r q : Decision) → decisionRead r ≡ decisionRead q → r ≡ q
 decision-apart = apart decisionRead decisionNamed decision-back
+
+pub reading-apart : (r q : Reading) → readingRead r ≡ readingRead q → r ≡ q
+reading-apart = apart readingRead readingNamed reading-back
 
 -- two outcomes that meet the promise on one input are equal
 pub check-unique : (s : List ℕ) (r q : Checked) → CheckPromise s r → CheckPromise s q → r ≡ q
@@ -186,3 +201,13 @@ host-unique budget s work witness answer r q w v w′ v′ a b x y = (
   x .witness-after ∙ sym (y .witness-after),
   x .answer-after ∙ sym (y .answer-after),
 )
+
+pub read-unique : (text problem : List ℕ) (r q : Reading) (w v : List ℕ)
+    → ReadPromise text problem r w → ReadPromise text problem q v → (r ≡ q) × (w ≡ v)
+read-unique text problem r q w v x y =
+    (reading-apart r q (x .answers ∙ sym (y .answers)), x .problem-after ∙ sym (y .problem-after))
+
+pub host-read-unique : (text problem answer : List ℕ) (r q : ℕ) (w v a b : List ℕ)
+    → HostReadPromise text problem answer r w a → HostReadPromise text problem answer q v b → (r ≡ q) × (w ≡ v) × (a ≡ b)
+host-read-unique text problem answer r q w v a b x y =
+    (x .returns ∙ sym (y .returns), x .problem-after ∙ sym (y .problem-after), x .answer-after ∙ sym (y .answer-after))

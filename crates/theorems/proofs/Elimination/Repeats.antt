@@ -13,7 +13,7 @@ use Rattle.definitions.specs.Elimination.{earliest}
 use Rattle.theorems.proofs.Laws.Tests.{and-left, and-right, some-same, none≢some}
 
 -- nodes that are the same in all five fields are equal
-same-node : (m n : Node) → same m n ≡ true → m ≡ n
+pub same-node : (m n : Node) → same m n ≡ true → m ≡ n
 same-node m n e =
     let e4 = and-left (eqb (m .op) (n .op) && eqb (m .sym) (n .sym) && eqb (m .a) (n .a) && eqb (m .b) (n .b)) (eqb (m .c) (n .c)) e in
     let e3 = and-left (eqb (m .op) (n .op) && eqb (m .sym) (n .sym) && eqb (m .a) (n .a)) (eqb (m .b) (n .b)) e4 in
@@ -25,7 +25,7 @@ same-node m n e =
     let c = eqb-true (m .c) (n .c) (and-right (eqb (m .op) (n .op) && eqb (m .sym) (n .sym) && eqb (m .a) (n .a) && eqb (m .b) (n .b)) (eqb (m .c) (n .c)) e) in
     λ i. record { op = o i; sym = s i; a = a i; b = b i; c = c i }
 
-node-same : (m n : Node) → m ≡ n → same m n ≡ true
+pub node-same : (m n : Node) → m ≡ n → same m n ≡ true
 node-same m n e = subst (λ (x : Node). same m x ≡ true) e (self m)
   where
     self : (m : Node) → same m m ≡ true

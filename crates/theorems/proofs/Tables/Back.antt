@@ -14,16 +14,20 @@ use Rattle.theorems.proofs.Fits.{FitsNode}
 pub two-back : (x : ℕ) → x < 65536 → x % 256 + 256 * (x / 256 % 256) ≡ x
 two-back x h = omega arith
 
+-- operands that two bytes hold
+abbrev pub Low : Node → Type 0
+Low n = (n .a < 65536) × (n .b < 65536) × (n .c < 65536)
+
 -- the eight bytes of a node
-pub node-back : (n : Node) → FitsNode n → (rest : List ℕ) → nodeAt (nodeBytes n ++ rest) 0 ≡ n
+node-back : (n : Node) → Low n → (rest : List ℕ) → nodeAt (nodeBytes n ++ rest) 0 ≡ n
 node-back n f rest =
     λ i.
     record {
       op = n .op;
       sym = n .sym;
-      a = two-back (n .a) (f .a-fits) i;
-      b = two-back (n .b) (f .b-fits) i;
-      c = two-back (n .c) (f .c-fits) i;
+      a = two-back (n .a) (f .0) i;
+      b = two-back (n .b) (f .1) i;
+      c = two-back (n .c) (f .2) i;
     }
 
 -- what stands after some bytes is read at places after them
@@ -45,12 +49,12 @@ module _ (p xs : List ℕ) where
         c = two-after (i + 6) (j + 6) (omega arith) k;
       }
 
-  nodes-after : (i j m : ℕ) → j ≡ length p + i → nodesAt (p ++ xs) j m ≡ nodesAt xs i m
+  pub nodes-after : (i j m : ℕ) → j ≡ length p + i → nodesAt (p ++ xs) j m ≡ nodesAt xs i m
   nodes-after i j zero e = refl
   nodes-after i j (suc m) e =
       ap₂ {C = List Node} (λ n ns. n ∷ ns) (node-after i j e) (nodes-after (i + 8) (j + 8) m (omega arith))
 
-nodes-back : (t : List Node) → ((k : ℕ) → k < length t → FitsNode (node t k)) → (rest : List ℕ) → nodesAt (tableBytes t ++ rest) 0 (length t) ≡ t
+pub nodes-back : (t : List Node) → ((k : ℕ) → k < length t → Low (node t k)) → (rest : List ℕ) → nodesAt (tableBytes t ++ rest) 0 (length t) ≡ t
 nodes-back [] f rest = refl
 nodes-back (n ∷ t) f rest =
     let after = tableBytes t ++ rest in
@@ -60,4 +64,4 @@ nodes-back (n ∷ t) f rest =
 
 -- the table at the start of a buffer
 pub table-back : (t : List Node) → ((k : ℕ) → k < length t → FitsNode (node t k)) → (w : List ℕ) → nodesAt (over (tableBytes t) w) 0 (length t) ≡ t
-table-back t f w = nodes-back t f _
+table-back t f w = nodes-back t (λ k h. let n = f k h in (n .a-fits, n .b-fits, n .c-fits)) _

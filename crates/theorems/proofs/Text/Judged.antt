@@ -1,0 +1,199 @@
+-- What the promises of read and decide say together, case by case: the lemmas below the top of texts. Assumes nothing.
+use mathlib.Core.Path.{_≡_, refl, sym, ap, _∙_, subst}
+use Prim.Native.Nat.{ℕ, _^_, _≤_}
+use native.Mathlib.Omega.{arith}
+use mathlib.Core.Bool.{true, false, not}
+use mathlib.Core.List.{List, [], _∷_}
+use mathlib.Core.Logic.{_⊎_, inl, inr, _↔_}
+use mathlib.Core.Option.{none}
+use lib.ListN.{length, take, drop}
+use lib.Seq.{take-at}
+use borrow.Author.Tests.{not-false}
+use Rattle.definitions.specs.Problem.Check.{refusalOf}
+use Rattle.definitions.specs.Logic.{Interpretation, Valid, holds}
+use Rattle.definitions.specs.Ranges.{product}
+use Rattle.definitions.specs.Witness.{tablesOf}
+use Rattle.definitions.specs.Operations.Answers.{Answer, refused, given, shortWork, shortWitness, eliminateRefusal, buffersRefusal}
+use Rattle.definitions.specs.Operations.Buffers.{over}
+use Rattle.definitions.specs.Operations.Promises.{DecidePromise, ReadPromise}
+use Rattle.definitions.specs.Text.Grammar.{Script}
+use Rattle.definitions.specs.Text.Reader.{scriptRead}
+use Rattle.definitions.specs.Text.Meaning.{assertsTrue, Unsat}
+use Rattle.definitions.specs.Text.Nodes.{problemOfScript, taken, lengthRead, bufferRead, readAnswer, readBuffer}
+use Rattle.definitions.specs.declared.Refusal.{Refusal}
+use Rattle.definitions.specs.declared.Refusal.the-variants.{
+  TooShort,
+  NotEqp,
+  BadVersion,
+  BadCounts,
+  BadLength,
+  BadSymbol,
+  BadNode,
+  TermAsked,
+  ManyFunctions,
+  ManyPredicates,
+  ShortWork,
+  ShortWitness,
+  BigProduct,
+  WrongToken,
+  TooDeep,
+  ShortProblem,
+}
+use Rattle.definitions.specs.declared.Decision.{Decision}
+use Rattle.definitions.specs.declared.Reading.{Reading}
+use Rattle.theorems.specs.Conditions.{Meets, Passes, PassesTwelve}
+use Rattle.theorems.specs.Searched.{Falsifiable}
+use Rattle.theorems.specs.Texts.{Sat}
+use Rattle.theorems.proofs.Laws.First.{first-none}
+use Rattle.theorems.proofs.Refusing.{passes-twelve}
+use Rattle.theorems.proofs.Top.{refused-means, taken-means, valid-means, falsified-means, stopped-means, enough-means}
+use Rattle.theorems.proofs.Text.Taken.Texts.{taken-means as taken-reads, text-means, text-taken, valid-unsat, unsat-valid}
+
+-- where check takes a problem, decide can refuse it only for its buffers or its product
+module _ (s : List ℕ) (work room : ℕ) (ok : refusalOf s ≡ none) where
+  twelve : PassesTwelve s 21056 206
+  unfolding buffersRefusal eliminateRefusal
+  twelve =
+      passes-twelve s 21056 206 .0
+      (first-none (eliminateRefusal s 21056 ∷ shortWitness 206 ∷ []) (first-none (refusalOf s ∷ shortWork 21056 ∷ []) (ok, (refl, tt)), (refl, tt)))
+
+  pub left-over : (x : Refusal) → Meets s work room x → (x ≡ ShortWork) ⊎ ((x ≡ ShortWitness) ⊎ (x ≡ BigProduct))
+  left-over TooShort m = absurd (twelve TooShort (omega arith) m)
+  left-over NotEqp m = absurd (twelve NotEqp (omega arith) m)
+  left-over BadVersion m = absurd (twelve BadVersion (omega arith) m)
+  left-over BadCounts m = absurd (twelve BadCounts (omega arith) m)
+  left-over BadLength m = absurd (twelve BadLength (omega arith) m)
+  left-over (BadSymbol k) m = absurd (twelve (BadSymbol k) (omega arith) m)
+  left-over (BadNode k) m = absurd (twelve (BadNode k) (omega arith) m)
+  left-over TermAsked m = absurd (twelve TermAsked (omega arith) m)
+  left-over ManyFunctions m = absurd (twelve ManyFunctions (omega arith) m)
+  left-over ManyPredicates m = absurd (twelve ManyPredicates (omega arith) m)
+  left-over ShortWork m = inl refl
+  left-over ShortWitness m = inr (inl refl)
+  left-over BigProduct m = inr (inr refl)
+  left-over (WrongToken k) m = absurd m
+  left-over (TooDeep k) m = absurd m
+  left-over ShortProblem m = absurd m
+
+  pub all-pass : 21056 ≤ work → 206 ≤ room → product s ≤ 10 ^ 18 → Passes s work room
+  all-pass w r p x m =
+      elim (left-over x m) [
+        | inl e ↦ (let l = subst (Meets s work room) e m in omega arith)
+        | inr (inl e) ↦ (let l = subst (Meets s work room) e m in omega arith)
+        | inr (inr e) ↦ (let l = subst (Meets s work room) e m in omega arith)
+      ]
+
+module _
+    (text problem : List ℕ)
+    (written : ℕ)
+    (problem′ : List ℕ)
+    (reading : ReadPromise text problem (Reading.Problem written) problem′) where
+  -- a text that is answered with a problem is taken
+  script-taken : (s : Script) × (taken text (length problem) ≡ given s)
+  unfolding readAnswer
+  script-taken = go (taken text (length problem)) refl (reading .answers)
+    where
+      go : (a : Answer Script) → taken text (length problem) ≡ a → given written ≡ lengthRead a → (s : Script) × (taken text (length problem) ≡ given s)
+      go (refused r) e f = absurd (let z : _≡_ {A = ℕ} 0 1 = cc in omega arith)
+      go (given s) e f = (s, e)
+
+  pub script-read : (s : Script) × (scriptRead text ≡ given s)
+  script-read = (script-taken .0, taken-reads text (length problem) (script-taken .0) (script-taken .1) .reads)
+
+  module _ (s : Script) (reads : scriptRead text ≡ given s) where
+    taken-so : taken text (length problem) ≡ given s
+    unfolding script-taken script-read
+    taken-so = go (script-taken .0) (script-taken .1) (script-read .1)
+      where
+        go : (r : Script) → taken text (length problem) ≡ given r → scriptRead text ≡ given r → taken text (length problem) ≡ given s
+        go r p q = cc
+
+    written-so : written ≡ length (problemOfScript s)
+    unfolding readAnswer
+    written-so = go (reading .answers ∙ ap lengthRead taken-so)
+      where
+        go : given written ≡ given (length (problemOfScript s)) → written ≡ length (problemOfScript s)
+        go e = cc
+
+    buffer-so : problem′ ≡ over (problemOfScript s) problem
+    unfolding readBuffer
+    buffer-so = reading .problem-after ∙ ap (λ (a : Answer Script). bufferRead a problem) taken-so
+
+    -- the bytes that it is answered with are the script's problem
+    pub problem-so : take written problem′ ≡ problemOfScript s
+    problem-so =
+        ap (take written) buffer-so
+        ∙ take-at (problemOfScript s) (drop (length (problemOfScript s)) problem) written (sym written-so)
+
+    pub problem-written : (written ≡ length (problemOfScript s)) × (problem′ ≡ over (problemOfScript s) problem)
+    problem-written = (written-so, buffer-so)
+
+    -- an interpretation makes the problem false exactly if it makes every assert true
+    asserts-true : (I : Interpretation) → holds I (problemOfScript s) ≡ false → assertsTrue I s ≡ true
+    asserts-true I e = not-false (assertsTrue I s) (sym (text-means text (length problem) s taken-so I) ∙ e)
+
+    sat-exactly : Sat s ↔ Falsifiable (problemOfScript s)
+    sat-exactly = (
+      λ m. (m .0, text-means text (length problem) s taken-so (m .0) ∙ ap not (m .1)),
+      λ m. (m .0, asserts-true (m .0) (m .1)),
+    )
+
+    pub unsat-exactly : Unsat s ↔ Valid (problemOfScript s)
+    unsat-exactly = (unsat-valid text (length problem) s taken-so, valid-unsat text (length problem) s taken-so)
+
+    module _
+        (budget : ℕ)
+        (work witness : List ℕ)
+        (d : Decision)
+        (work′ witness′ : List ℕ)
+        (decision : DecidePromise budget (take written problem′) work witness d work′ witness′) where
+      -- decide was asked about the script's problem
+      abbrev on : List ℕ
+      on = problemOfScript s
+
+      asked : DecidePromise budget on work witness d work′ witness′
+      asked = subst (λ (p : List ℕ). DecidePromise budget p work witness d work′ witness′) problem-so decision
+
+      ok : refusalOf on ≡ none
+      ok = text-taken text (length problem) s taken-so
+
+      pub refused-judged : (x : Refusal) → d ≡ Decision.Refused x → (x ≡ ShortWork) ⊎ ((x ≡ ShortWitness) ⊎ (x ≡ BigProduct))
+      refused-judged x e =
+          left-over on (length work) (length witness) ok x (refused-means budget on work witness d work′ witness′ asked x .0 .0 e .0)
+
+      pub valid-judged : (tried places : ℕ) → d ≡ Decision.Valid tried places → Unsat s
+      valid-judged tried places e = unsat-exactly .1 (valid-means budget on work witness d work′ witness′ asked tried places e .3)
+
+      pub falsified-judged : (tried places bytes : ℕ) → d ≡ Decision.Falsified tried places bytes → assertsTrue (tablesOf witness′) s ≡ true
+      falsified-judged tried places bytes e =
+          asserts-true (tablesOf witness′) (falsified-means budget on work witness d work′ witness′ asked tried places bytes e .6)
+
+      -- with room for the job and a budget of at least the product, the verdict is the script's
+      module _ (work-long : 21056 ≤ length work) (room-long : 206 ≤ length witness) (small : product on ≤ 10 ^ 18) (enough : product on ≤ budget) where
+        both : ((d ≡ Decision.Valid (product on) (product on)) ↔ Valid on)
+            × (((tried bytes : ℕ) × (d ≡ Decision.Falsified tried (product on) bytes)) ↔ Falsifiable on)
+        both =
+            enough-means budget on work witness d work′ witness′ asked
+            (all-pass on (length work) (length witness) ok work-long room-long small) enough
+
+        pub unsat-judged : (d ≡ Decision.Valid (product on) (product on)) ↔ Unsat s
+        unsat-judged = (λ e. unsat-exactly .1 (both .0 .0 e), λ u. both .0 .1 (unsat-exactly .0 u))
+
+        pub sat-judged : ((tried bytes : ℕ) × (d ≡ Decision.Falsified tried (product on) bytes)) ↔ Sat s
+        sat-judged = (λ e. sat-exactly .1 (both .1 .0 e), λ m. both .1 .1 (sat-exactly .0 m))
+
+        -- some verdict comes, and it is not stopped
+        pub not-unsat-judged : (Unsat s → ⊥) → (tried bytes : ℕ) × (d ≡ Decision.Falsified tried (product on) bytes)
+        not-unsat-judged n = go d refl
+          where
+            go : (r : Decision) → d ≡ r → (tried bytes : ℕ) × (d ≡ Decision.Falsified tried (product on) bytes)
+            go (Decision.Valid tried places) e = absurd (n (valid-judged tried places e))
+            go (Decision.Falsified tried places bytes) e =
+                let places-are = falsified-means budget on work witness d work′ witness′ asked tried places bytes e .0 in
+                (tried, bytes, e ∙ ap (λ (k : ℕ). Decision.Falsified tried k bytes) places-are)
+            go (Decision.Stopped tried places) e =
+                let b = stopped-means budget on work witness d work′ witness′ asked tried places e .2 in absurd (omega arith)
+            go (Decision.Refused x) e =
+                absurd
+                (taken-means budget on work witness d work′ witness′ asked .1
+                (all-pass on (length work) (length witness) ok work-long room-long small) x e)
