@@ -20,7 +20,6 @@ token l place next = record { lexeme = l; place = place; next = next }
 
 -- each token takes a byte or more
 each-takes : (b : ℕ) (bs : List ℕ) → 1 ≤ tokenAt b bs .width
-unfolding tokenAt
 each-takes b bs = go (wordByte b) refl (eqb b 124) (barred bs) (eqb b 40) (eqb b 41)
   where
     runs : (w : Bool) → w ≡ true → 1 ≤ length {A = ℕ} (elim w as (λ _. List ℕ) [ true ↦ b ∷ run bs | false ↦ [] ])

@@ -53,7 +53,6 @@ module _ (text : List ℕ) (place : ℕ) (h : place < length text) where
   bs = drop (place + 1) text
 
   by : {w bar : Bool} → wordByte b ≡ w → eqb b 124 ≡ bar → tokenThere text place ≡ tokenBy b bs w bar
-  unfolding tokenAt
   by e f = ap₂ {C = tokens.Lexeme} (tokenBy b bs) e f
 
   -- a word

@@ -100,7 +100,7 @@ barToken none = lexeme wrong 1
 barToken (some name) = lexeme (symbol name) (2 + length name)
 
 -- the token at a byte that is no white space and starts no comment. L7: any other byte starts no token
-unfoldable pub tokenAt : ℕ → List ℕ → Lexeme
+abbrev pub tokenAt : ℕ → List ℕ → Lexeme
 tokenAt b bs =
     elim (wordByte b) [
       | true ↦ let name = run (b ∷ bs) in lexeme (wordToken b name) (length name)

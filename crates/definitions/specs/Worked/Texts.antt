@@ -8,7 +8,7 @@ use Rattle.definitions.specs.Problem.Node.{Node, plain}
 use Rattle.definitions.specs.Problem.Check.{refuse}
 use Rattle.definitions.specs.Operations.Answers.{Answer, refused, given}
 use Rattle.definitions.specs.Text.Ascii.{ascii}
-use Rattle.definitions.specs.Text.Tokens.{tokenAt, tokensOf}
+use Rattle.definitions.specs.Text.Tokens.{tokensOf}
 use Rattle.definitions.specs.Text.Grammar.{Script}
 use Rattle.definitions.specs.Text.Reader.{step, scriptRead}
 use Rattle.definitions.specs.Text.Nodes.{ask, nodesOfScript, bytesOfScript, problemOfScript, limitsOfScript, taken}
@@ -47,7 +47,7 @@ pub worked-1 :
       nodes = plain 7 0 0 0 ∷ plain 3 0 0 0 ∷ [];
       bytes = 24;
     })
-unfolding taken scriptRead tokensOf tokenAt step bytesOfScript nodesOfScript problemOfScript limitsOfScript ask
+unfolding taken scriptRead tokensOf step bytesOfScript nodesOfScript problemOfScript limitsOfScript ask
 worked-1 = refl
 
 pub worked-2 :
@@ -58,7 +58,7 @@ pub worked-2 :
       nodes = f 0 0 ∷ f 1 0 ∷ plain 2 0 1 0 ∷ f 2 0 ∷ f 2 1 ∷ plain 2 3 4 0 ∷ plain 3 5 0 0 ∷ plain 4 2 6 0 ∷ plain 3 7 0 0 ∷ [];
       bytes = 83;
     })
-unfolding taken scriptRead tokensOf tokenAt step bytesOfScript nodesOfScript problemOfScript limitsOfScript ask
+unfolding taken scriptRead tokensOf step bytesOfScript nodesOfScript problemOfScript limitsOfScript ask
 worked-2 = refl
 
 pub worked-3 :
@@ -69,7 +69,7 @@ pub worked-3 :
       nodes = p 2 ∷ plain 3 0 0 0 ∷ p 3 ∷ plain 3 2 0 0 ∷ f 0 0 ∷ f 1 0 ∷ plain 2 4 5 0 ∷ plain 2 5 4 0 ∷ plain 4 6 7 0 ∷ plain 5 3 8 0 ∷ plain 5 1 9 0 ∷ plain 3 10 0 0 ∷ [];
       bytes = 108;
     })
-unfolding taken scriptRead tokensOf tokenAt step bytesOfScript nodesOfScript problemOfScript limitsOfScript ask
+unfolding taken scriptRead tokensOf step bytesOfScript nodesOfScript problemOfScript limitsOfScript ask
 worked-3 = refl
 
 pub worked-4 :
@@ -80,7 +80,7 @@ pub worked-4 :
       nodes = p 0 ∷ p 1 ∷ plain 5 0 1 0 ∷ p 2 ∷ plain 5 2 3 0 ∷ plain 3 0 0 0 ∷ plain 4 0 4 0 ∷ plain 4 6 5 0 ∷ plain 3 7 0 0 ∷ [];
       bytes = 83;
     })
-unfolding taken scriptRead tokensOf tokenAt step bytesOfScript nodesOfScript problemOfScript limitsOfScript ask
+unfolding taken scriptRead tokensOf step bytesOfScript nodesOfScript problemOfScript limitsOfScript ask
 worked-4 = refl
 
 pub worked-5 :
@@ -91,23 +91,23 @@ pub worked-5 :
       nodes = p 2 ∷ plain 7 0 0 0 ∷ plain 4 0 1 0 ∷ f 0 0 ∷ f 1 0 ∷ plain 1 0 3 4 ∷ plain 2 5 4 0 ∷ plain 4 2 6 0 ∷ plain 3 7 0 0 ∷ [];
       bytes = 83;
     })
-unfolding taken scriptRead tokensOf tokenAt step bytesOfScript nodesOfScript problemOfScript limitsOfScript ask
+unfolding taken scriptRead tokensOf step bytesOfScript nodesOfScript problemOfScript limitsOfScript ask
 worked-5 = refl
 
 pub worked-6 : reads (H ++ ascii "(declare-fun f (U U U U) U)" ++ C) ≡ refused (refuse 14 57)
-unfolding taken scriptRead tokensOf tokenAt step bytesOfScript nodesOfScript problemOfScript limitsOfScript ask
+unfolding taken scriptRead tokensOf step bytesOfScript nodesOfScript problemOfScript limitsOfScript ask
 worked-6 = refl
 
 pub worked-7 : reads (H ++ ascii "(declare-fun p () Bool)(assert (and p))" ++ C) ≡ refused (refuse 14 72)
-unfolding taken scriptRead tokensOf tokenAt step bytesOfScript nodesOfScript problemOfScript limitsOfScript ask
+unfolding taken scriptRead tokensOf step bytesOfScript nodesOfScript problemOfScript limitsOfScript ask
 worked-7 = refl
 
 pub worked-8 : reads (H ++ ascii "(declare-fun x () U)(declare-fun p () Bool)(assert (= (ite p x p) x))" ++ C) ≡ refused (refuse 14 98)
-unfolding taken scriptRead tokensOf tokenAt step bytesOfScript nodesOfScript problemOfScript limitsOfScript ask
+unfolding taken scriptRead tokensOf step bytesOfScript nodesOfScript problemOfScript limitsOfScript ask
 worked-8 = refl
 
 pub worked-9 : reads (H ++ ascii "(assert true)" ++ C ++ ascii "(exit)") ≡ refused (refuse 14 59)
-unfolding taken scriptRead tokensOf tokenAt step bytesOfScript nodesOfScript problemOfScript limitsOfScript ask
+unfolding taken scriptRead tokensOf step bytesOfScript nodesOfScript problemOfScript limitsOfScript ask
 worked-9 = refl
 
 abbrev repeated : ℕ → List ℕ → List ℕ
@@ -115,11 +115,11 @@ repeated zero s = []
 repeated (suc n) s = s ++ repeated n s
 
 pub worked-10 : reads (H ++ ascii "(declare-fun p () Bool)(assert " ++ repeated 65 (ascii "(not ")) ≡ refused (refuse 15 386)
-unfolding taken scriptRead tokensOf tokenAt step bytesOfScript nodesOfScript problemOfScript limitsOfScript ask
+unfolding taken scriptRead tokensOf step bytesOfScript nodesOfScript problemOfScript limitsOfScript ask
 worked-10 = refl
 
 pub worked-11 : reads (H ++ ascii "(declare-fun p () Bool)(assert p) ; no more\n") ≡ refused (refuse 14 79)
-unfolding taken scriptRead tokensOf tokenAt step bytesOfScript nodesOfScript problemOfScript limitsOfScript ask
+unfolding taken scriptRead tokensOf step bytesOfScript nodesOfScript problemOfScript limitsOfScript ask
 worked-11 = refl
 
 -- so many constants, each the letter a and one more byte, in bars
@@ -128,7 +128,7 @@ constants zero = []
 constants (suc n) = constants n ++ ascii "(declare-fun |a" ++ ((32 + n) ∷ []) ++ ascii "|()U)"
 
 pub worked-12 : reads (H ++ constants 33 ++ C) ≡ refused (refuse 4 0)
-unfolding taken scriptRead tokensOf tokenAt step bytesOfScript nodesOfScript problemOfScript limitsOfScript ask
+unfolding taken scriptRead tokensOf step bytesOfScript nodesOfScript problemOfScript limitsOfScript ask
 worked-12 = refl
 
 -- a buffer of 2,087 bytes is refused before anything is read
