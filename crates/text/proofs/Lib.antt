@@ -3,3 +3,4 @@ pub mod LexLaws
 pub mod Rows
 pub mod TokenLaws
 pub mod Streams
+pub mod AskLaws

@@ -1,16 +1,13 @@
--- A table of names in rows: row i stands 22 * i bytes on; and a name is among the rows exactly if the search finds one. Assumes
--- nothing.
-use mathlib.Core.Path.{_≡_, refl, sym, ap, _∙_}
+-- A table of names in rows: row i stands 22 * i bytes on. Assumes nothing.
+use mathlib.Core.Path.{_≡_, refl, ap, _∙_}
 use Prim.Native.Nat.{ℕ, zero, suc, _+_, _-_, _*_, _≤_, _<_}
 use native.Mathlib.Omega.{arith}
-use mathlib.Core.Bool.{Bool, true, false, not, _&&_, _||_}
-use mathlib.Core.List.{List, [], _∷_}
-use mathlib.Core.Option.{Option, none, some}
+use mathlib.Core.Bool.{Bool, true, _&&_}
+use mathlib.Core.List.{List, []}
 use lib.ListN.{length, getD, take, drop}
 use lib.Seq.{getD-drop, drop-drop}
 use lib.Dec.{leb}
 use borrow.Author.Tests.{leb-true}
-use Rattle.definitions.specs.Lists.{any, firstFailing}
 use Rattle.definitions.specs.Bytes.{byteAt}
 use Rattle.text.specs.Lexing.{between}
 use Rattle.theorems.proofs.Laws.Tests.{and-left, and-right}
@@ -40,27 +37,6 @@ row-at (suc n) table (suc i) h =
 
     size : 22 * i + 1 + byteAt (drop 22 table) (22 * i) - (22 * i + 1) ≡ 22 * suc i + 1 + byteAt table (22 * suc i) - (22 * suc i + 1)
     size = omega (arith, byte)
-
--- the search finds nothing, or some member
-module _ {A : Type 0} (f : A → Bool) where
-  abbrev there : Option ℕ → Bool
-  there none = false
-  there (some k) = true
-
-  found-any : (i : ℕ) (xs : List A) → there (firstFailing (λ x. not (f x)) i xs) ≡ any f xs
-  found-any i [] = refl
-  found-any i (x ∷ xs) = go (f x) (found-any (suc i) xs)
-    where
-      go : (b : Bool) → there (firstFailing (λ x. not (f x)) (suc i) xs) ≡ any f xs
-          → there (elim (not b) [ true ↦ firstFailing (λ x. not (f x)) (suc i) xs | false ↦ some i ]) ≡ (b || any f xs)
-      go true e = refl
-      go false e = e
-
-  pub none-any : (xs : List A) → firstFailing (λ x. not (f x)) 0 xs ≡ none → any f xs ≡ false
-  none-any xs e = sym (found-any 0 xs) ∙ ap there e
-
-  pub some-any : (xs : List A) (k : ℕ) → firstFailing (λ x. not (f x)) 0 xs ≡ some k → any f xs ≡ true
-  some-any xs k e = sym (found-any 0 xs) ∙ ap there e
 
 -- the facts of a table, by tests that compute
 abbrev shortRows : ℕ → List ℕ → Bool

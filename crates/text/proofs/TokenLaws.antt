@@ -11,7 +11,7 @@ use lib.Dec.{eqb}
 use borrow.Author.Tests.{eq-eqb, ne-eqb}
 use Rattle.definitions.specs.Lists.{any}
 use Rattle.definitions.specs.Text.Ascii.{sameBytes}
-use Rattle.definitions.specs.Text.Tokens.{opening, closing, nought, wrong, symbol, word, RESERVED, digit, wordByte, run, barred, lexeme, wordToken, barToken, tokenAt}
+use Rattle.definitions.specs.Text.Tokens.{opening, closing, nought, wrong, symbol, word, RESERVED, digit, wordByte, run, barred, lexeme, wordToken, barToken}
 use Rattle.definitions.specs.Text.Tokens as tokens
 use Rattle.problem.specs.declared.bytes.Found.{Found}
 use Rattle.text.specs.Lexing.{between, lexemeRead, numeralRead, bracketRead, tokenThere, LexemeWithin, RunsTo, BarredTo, TokenIs}

@@ -1,8 +1,7 @@
 -- A list of arguments laid as it is read, one argument after the other: what is kept of it between two arguments, and how it ends.
 -- That this lays what the pairs of the definition lay is a law (proofs/ListLaws). Assumes nothing.
-use Prim.Native.Nat.{ℕ, zero, suc, _+_}
+use Prim.Native.Nat.{ℕ, zero, suc}
 use mathlib.Core.List.{List, [], _∷_}
-use lib.ListN.{length}
 use Rattle.definitions.specs.Problem.Node.{Node, plain}
 use Rattle.definitions.specs.Problem.Ops.{term, formula}
 use Rattle.definitions.specs.Text.Grammar.{

@@ -1,11 +1,7 @@
 -- A table of names in rows of 22 bytes: a name's length, the name, and what fills the row. Assumes nothing.
-use mathlib.Core.Path.{_≡_}
 use Prim.Native.Nat.{ℕ, zero, suc, _*_, _≤_, _<_}
-use mathlib.Core.Bool.{true}
 use mathlib.Core.List.{List, [], _∷_}
 use lib.ListN.{length, take, drop}
-use lib.Dec.{leb}
-use Rattle.definitions.specs.Lists.{all}
 use Rattle.definitions.specs.Bytes.{byteAt}
 
 abbrev pub rowsIn : ℕ → List ℕ → List (List ℕ)

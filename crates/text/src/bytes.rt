@@ -1,6 +1,6 @@
 // The bytes of a text: which of them make a word, a gap or a name in bars, and whether two names are the same.
 ghost use mathlib.Core.Path.{_≡_};
-ghost use Prim.Native.Nat.{_+_, _≤_};
+ghost use Prim.Native.Nat.{_+_};
 ghost use Rattle.definitions.specs.Text.Ascii.{sameBytes};
 ghost use Rattle.definitions.specs.Text.Tokens.{isOf, whiteSpace, lineBreak, digit, wordByte, barByte};
 ghost use Rattle.definitions.specs.Text.Tokens as tokens;

@@ -1,6 +1,5 @@
 -- By the first byte and by the reserved words. Assumes nothing.
 use mathlib.Core.Path.{sym, _∙_}
-use native.Mathlib.Omega.{arith}
 use Rattle.text.proofs.TokenLaws.{numeral-is, reserved-is, symbol-is}
 use borrow.Author.Needs.{needs}
 use Rattle.text.proofs.tokens.word_token.Statement.{statement}

@@ -4,7 +4,8 @@ use mathlib.Core.Path.{refl, sym, ap, _∙_}
 use Rattle.definitions.specs.Text.Ascii.{sameBytes}
 use Rattle.definitions.specs.Text.Tokens.{RESERVED}
 use Rattle.problem.specs.Stages.{foundOf}
-use Rattle.text.proofs.Rows.{rows-fit, none-any, some-any}
+use Rattle.problem.proofs.Scans.{any-none, any-some}
+use Rattle.text.proofs.Rows.{rows-fit}
 use Rattle.text.proofs.words.reserved.Statement.{statement}
 use Rattle.text.proofs.words.reserved.Tie as tie
 
@@ -21,10 +22,10 @@ enum-told-2 : tie.Need-enum-told-2
 enum-told-2 c = search needs
 
 returns : tie.Need-returns
-returns c = sym (none-any (sameBytes (c .before .before .before .before .before .args .name .now)) RESERVED (sym (c .before .before .row-of .ensures) ∙ ap foundOf (c .enum-told .given .1)))
+returns c = sym (any-none (sameBytes (c .before .before .before .before .before .args .name .now)) 0 RESERVED (sym (c .before .before .row-of .ensures) ∙ ap foundOf (c .enum-told .given .1)))
 
 returns-2 : tie.Need-returns-2
-returns-2 c = sym (some-any (sameBytes (c .before .before .before .before .before .args .name .now)) RESERVED _ (sym (c .before .before .row-of .ensures) ∙ ap foundOf (c .enum-told2 .given .1)))
+returns-2 c = sym (any-some (sameBytes (c .before .before .before .before .before .args .name .now)) 0 _ RESERVED (sym (c .before .before .row-of .ensures) ∙ ap foundOf (c .enum-told2 .given .1)))
 
 pub reserved-spec : {M : Type 1} → statement M
 reserved-spec =

@@ -3,9 +3,8 @@ use mathlib.Core.Path.{_≡_, refl, sym, ap, _∙_}
 use Prim.Native.Nat.{ℕ, _+_, _*_, _-_, _≤_, _<_}
 use native.Mathlib.Omega.{arith}
 use borrow.Author.Needs.{needs}
-use mathlib.Core.Bool.{Bool, true, false, not}
+use mathlib.Core.Bool.{Bool, not}
 use mathlib.Core.List.{List, []}
-use mathlib.Core.Option.{none, some}
 use lib.ListN.{length, getD}
 use Rattle.definitions.specs.Lists.{firstFailing}
 use Rattle.definitions.specs.Bytes.{byteAt}
