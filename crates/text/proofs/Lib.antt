@@ -1,5 +1,6 @@
 pub mod ByteLaws
 pub mod LexLaws
+pub mod ListSteps
 pub mod Rows
 pub mod TokenLaws
 pub mod Streams
