@@ -1,5 +1,7 @@
 pub mod ByteLaws
 pub mod LexLaws
+pub mod ListSteps
+pub mod ListLaws
 pub mod Rows
 pub mod TokenLaws
 pub mod Streams
