@@ -6,3 +6,5 @@ pub mod Rows
 pub mod TokenLaws
 pub mod Streams
 pub mod AskLaws
+pub mod LexemeLaws
+pub mod ReachLaws

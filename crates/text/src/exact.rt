@@ -2,7 +2,7 @@
 ghost use Prim.Native.Nat.{_≤_};
 ghost use lib.ListN.{length};
 ghost use Rattle.definitions.specs.Text.Tokens as tokens;
-ghost use Rattle.text.specs.Reading.{Exactly};
+ghost use Rattle.text.specs.Reading.{Exactly, Exacts, dueRead, StepWithin};
 use crate::bytes::same;
 use crate::tokens::Lexeme;
 use crate::tokens::next;
@@ -13,7 +13,33 @@ pub enum Step {
     Wrong(usize),
 }
 
-pub fn opening(text: &[u8], at: usize) -> Step
+// A token that must come: a bracket, 0, or the reserved word or the symbol of a name.
+pub enum Due {
+    Opening,
+    Closing,
+    Nought,
+    Word,
+    Symbol,
+}
+
+// A token that must come from a step on, which may be wrong already.
+pub fn exact(text: &[u8], step: Step, due: Due, name: &[u8]) -> Step
+    requires { ⌜ StepWithin (now text) step ⌝ }
+    ensures { λ r. ⌜ Exacts (now (text .entry)) (dueRead due (now (name .entry))) step r × StepWithin (now (text .entry)) r ⌝ }
+{
+    let Step::At(at) = step else {
+        return step;
+    };
+    match due {
+        Due::Opening => opening(text, at),
+        Due::Closing => closing(text, at),
+        Due::Nought => nought(text, at),
+        Due::Word => word(text, at, name),
+        Due::Symbol => symbol(text, at, name),
+    }
+}
+
+fn opening(text: &[u8], at: usize) -> Step
     requires { ⌜ at ≤ length (now text) ⌝ }
     ensures { λ r. ⌜ Exactly (now (text .entry)) at tokens.opening r ⌝ }
 {
@@ -25,7 +51,7 @@ pub fn opening(text: &[u8], at: usize) -> Step
     Step::Wrong(token.place)
 }
 
-pub fn closing(text: &[u8], at: usize) -> Step
+fn closing(text: &[u8], at: usize) -> Step
     requires { ⌜ at ≤ length (now text) ⌝ }
     ensures { λ r. ⌜ Exactly (now (text .entry)) at tokens.closing r ⌝ }
 {
@@ -37,7 +63,7 @@ pub fn closing(text: &[u8], at: usize) -> Step
     Step::Wrong(token.place)
 }
 
-pub fn nought(text: &[u8], at: usize) -> Step
+fn nought(text: &[u8], at: usize) -> Step
     requires { ⌜ at ≤ length (now text) ⌝ }
     ensures { λ r. ⌜ Exactly (now (text .entry)) at tokens.nought r ⌝ }
 {
@@ -50,7 +76,7 @@ pub fn nought(text: &[u8], at: usize) -> Step
 }
 
 // This reserved word.
-pub fn word(text: &[u8], at: usize, name: &[u8]) -> Step
+fn word(text: &[u8], at: usize, name: &[u8]) -> Step
     requires { ⌜ at ≤ length (now text) ⌝ }
     ensures { λ r. ⌜ Exactly (now (text .entry)) at (tokens.word (now (name .entry))) r ⌝ }
 {
@@ -68,7 +94,7 @@ pub fn word(text: &[u8], at: usize, name: &[u8]) -> Step
 }
 
 // The symbol of this name.
-pub fn symbol(text: &[u8], at: usize, name: &[u8]) -> Step
+fn symbol(text: &[u8], at: usize, name: &[u8]) -> Step
     requires { ⌜ at ≤ length (now text) ⌝ }
     ensures { λ r. ⌜ Exactly (now (text .entry)) at (tokens.symbol (now (name .entry))) r ⌝ }
 {
