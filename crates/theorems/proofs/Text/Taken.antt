@@ -18,4 +18,3 @@ pub mod Depth
 pub mod Told
 pub mod Answered
 pub mod Exactly
-pub mod Texts

@@ -11,14 +11,14 @@ use Rattle.definitions.specs.Problem.Node.{Node, node, plain}
 use Rattle.definitions.specs.Problem.Ops.{operandsOf}
 use Rattle.definitions.specs.Text.Grammar.{Script, newSort, commandsRight, scriptRight}
 use Rattle.definitions.specs.Text.Nodes.{Tree, absent, tree, operand, pair, notTree, leftward, rightward, Laid, lay, layAll, joined, nodesOfTrees, nodesOfScript, bytesOfScript}
-use Rattle.theorems.specs.Origins.{NodeOf, PartOf, itself, in-first, in-second, in-third}
+use Rattle.theorems.specs.Origins.{NodeOf, PartOf, itself, in-first, in-second, in-third, treesOfScript}
 use Rattle.theorems.proofs.Laws.Tests.{and-right}
 use Rattle.theorems.proofs.Laws.Ops.{AllBelow}
 use Rattle.theorems.proofs.Text.Meant.Shared.{Earlier}
 use Rattle.theorems.proofs.Text.Meant.Laying.{Present, AllPresent, Absent, AllAbsent, used, Full, lay-right, all-earlier}
 use Rattle.theorems.proofs.Text.Meant.Paired.{AllGood}
 use Rattle.theorems.proofs.Text.Meant.Reading.{anything, asserted, full-of, joined-good}
-use Rattle.theorems.proofs.Text.Meant.Origins.{lay-node, treesOfScript}
+use Rattle.theorems.proofs.Text.Meant.Origins.{lay-node}
 
 abbrev pub height : Tree → ℕ
 height absent = 0

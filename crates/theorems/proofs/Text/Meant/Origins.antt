@@ -12,7 +12,7 @@ use Rattle.definitions.specs.Lists.{snoc}
 use Rattle.definitions.specs.Problem.Node.{Node, node, noNode, plain}
 use Rattle.definitions.specs.Text.Grammar.{Script, assertsIn}
 use Rattle.definitions.specs.Text.Nodes.{Tree, absent, tree, operand, pair, notTree, leftward, Laid, placeOf, foundOr, ask, lay, layAll, joined, assertTrees, ended, nodesOfTrees, nodesOfScript}
-use Rattle.theorems.specs.Origins.{NodeOf, PartOf, itself, in-first, in-second, in-third, Origin, of-term, of-join, of-none, of-negation}
+use Rattle.theorems.specs.Origins.{NodeOf, PartOf, itself, in-first, in-second, in-third, Origin, of-term, of-join, of-none, of-negation, treesOfScript}
 use Rattle.theorems.proofs.Text.Meant.Shared.{ask-given, last-or-before}
 use Rattle.theorems.proofs.Text.Meant.Again.{lay-extends, all-extends}
 
@@ -225,10 +225,6 @@ module _ (ts : List Tree) where
       subst (λ (us : List Tree). (k : ℕ) × NodeOf (nodesOfTrees ts) (joined us) k) e
       (whole .number, nodes-kept (joined ts) (whole .number) (lay-node (joined ts) (layAll ts [])))
   origin-node of-negation = (length (whole .table), negation-node)
-
--- the trees of a script's asserts
-abbrev pub treesOfScript : Script → List Tree
-treesOfScript s = assertTrees (assertsIn (s .commands))
 
 -- EVERY NODE is that of a part of an assert's tree, of a join or of the negation
 pub node-origin : (s : Script) (k : ℕ) → k < length (nodesOfScript s) → (x : Tree) × (Origin (treesOfScript s) x × NodeOf (nodesOfScript s) x k)
