@@ -6,3 +6,5 @@ pub mod Problems
 pub mod Promised
 pub mod Judged
 pub mod Top
+pub mod Called
+pub mod HostTop

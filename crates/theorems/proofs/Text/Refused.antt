@@ -12,10 +12,11 @@ use borrow.Author.Tests.{ltb-true, ltb-false, lt-ltb, le-ltb}
 use Rattle.definitions.specs.Lists.{firstOf}
 use Rattle.definitions.specs.Problem.Check.{functionsIn, predicatesIn, Refused, refuse, refuseIf}
 use Rattle.definitions.specs.Operations.Answers.{Answer, refused, given, unless}
-use Rattle.definitions.specs.Operations.Readings.{refusalRead}
+use Rattle.definitions.specs.Operations.Readings.{refusalRead, readingRead}
 use Rattle.definitions.specs.Text.Grammar.{Script}
 use Rattle.definitions.specs.Text.Reader.{scriptRead}
-use Rattle.definitions.specs.Text.Nodes.{nodesOfScript, bytesOfScript, limits, limitsOfScript, withinLimits, ifRoom, taken}
+use Rattle.definitions.specs.Text.Nodes.{nodesOfScript, bytesOfScript, limits, limitsOfScript, problemOfScript, withinLimits, ifRoom, taken, lengthRead, readAnswer}
+use Rattle.definitions.specs.declared.Reading.{Reading}
 use Rattle.definitions.specs.declared.Refusal.{Refusal}
 use Rattle.definitions.specs.declared.Refusal.the-variants.{
   TooShort,
@@ -35,12 +36,14 @@ use Rattle.definitions.specs.declared.Refusal.the-variants.{
   TooDeep,
   ShortProblem,
 }
+use Rattle.theorems.specs.Conditions.{place}
 use Rattle.theorems.specs.Texts.{ReadAs, StopsAt, EndsEarly, Told, read, stops, ends, deep}
 use Rattle.theorems.specs.ReadConditions.{FewNodes, FewFunctions, FewPredicates, TakesText, RefusesText}
 use Rattle.theorems.proofs.Laws.Tests.{split, some-same, none≢some}
 use Rattle.theorems.proofs.Unique.{refusal-apart}
 use Rattle.theorems.proofs.Text.Taken.Told.{told}
-use Rattle.theorems.proofs.Text.Taken.Exactly.{read-means, fourteen-means, fifteen-means}
+use Rattle.theorems.proofs.Text.Taken.Exactly.{place-inside, read-means, fourteen-means, fifteen-means}
+use Rattle.theorems.proofs.Text.Meant.Bytes.{script-length}
 
 -- what the limits say of a problem
 data Limited (s : Script) : Option Refused → Type 0 where
@@ -178,3 +181,47 @@ module _ (text : List ℕ) (room : ℕ) where
       go : {a : Answer Script} → Says text room a → a ≡ refused (refusalRead x) → RefusesText text room x
       go (takes r t) e = absurd (let z : _≡_ {A = ℕ} 0 1 = cc in omega arith)
       go (refuses y r) e = let same : refusalRead y ≡ refusalRead x = cc in subst (RefusesText text room) (refusal-apart y x same) r
+
+  -- some answer is read's, whatever the text
+  pub reads : (q : Reading) × (readingRead q ≡ readAnswer text room)
+  unfolding readAnswer
+  reads = go says
+    where
+      go : {a : Answer Script} → Says text room a → (q : Reading) × (readingRead q ≡ lengthRead a)
+      go (takes s t) = (Reading.Problem (length (problemOfScript s)), refl)
+      go (refuses x r) = (Reading.Refused x, refl)
+
+  -- the place of a refusal is one of the text's, or its end
+  pub place-within : (x : Refusal) → RefusesText text room x → place x ≤ length text
+  place-within ShortProblem r = omega arith
+  place-within (WrongToken k) r = by (r .1)
+    where
+      by : StopsAt text k ⊎ ((k ≡ length text) × EndsEarly text) → k ≤ length text
+      by (inl s) = let h = place-inside text (s .before) (s .at) (s .after) (s .split) in let e = s .here in omega arith
+      by (inr s) = let e = s .0 in omega arith
+  place-within (TooDeep k) r =
+      let s = r .1 in
+      let h = place-inside text (s .before) (s .at) (s .after) (s .split) in
+      let e = s .here in
+      omega arith
+  place-within BadCounts r = omega arith
+  place-within ManyFunctions r = omega arith
+  place-within ManyPredicates r = omega arith
+  place-within TooShort r = absurd r
+  place-within NotEqp r = absurd r
+  place-within BadVersion r = absurd r
+  place-within BadLength r = absurd r
+  place-within (BadSymbol k) r = absurd r
+  place-within (BadNode k) r = absurd r
+  place-within TermAsked r = absurd r
+  place-within ShortWork r = absurd r
+  place-within ShortWitness r = absurd r
+  place-within BigProduct r = absurd r
+
+  -- and a problem is short
+  pub problem-short : (s : Script) → TakesText text room s → length (problemOfScript s) ≤ 2088
+  problem-short s t =
+      let e = script-length s in
+      let a = t .few-nodes .0 in
+      let b = t .few-nodes .1 in
+      omega arith
