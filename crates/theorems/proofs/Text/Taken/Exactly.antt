@@ -8,11 +8,12 @@ use mathlib.Core.Logic.{_⊎_, inl, inr, _↔_}
 use lib.ListN.{length}
 use Rattle.definitions.specs.Problem.Check.{Refused, refuse}
 use Rattle.definitions.specs.Operations.Answers.{Answer, refused, given}
-use Rattle.definitions.specs.Text.Tokens.{Placed, tokensOf}
+use Rattle.definitions.specs.Text.Tokens.{opening, Placed, tokensOf}
 use Rattle.definitions.specs.Text.Grammar.{Script}
 use Rattle.definitions.specs.Text.Reader.{scriptRead}
-use Rattle.theorems.specs.Texts.{Rises, ReadAs, StopsAt, EndsEarly, DeepAt, Told, read, stops, ends, deep}
+use Rattle.theorems.specs.Texts.{plainTokens, Rises, ReadAs, StopsAt, EndsEarly, DeepAt, Told, read, stops, ends, deep}
 use Rattle.theorems.proofs.Text.Taken.Lexed.{places-rise}
+use Rattle.theorems.proofs.Text.Taken.Depth.{opens-deep}
 use Rattle.theorems.proofs.Text.Taken.Told.{told}
 use Rattle.theorems.proofs.Text.Taken.Answered.{read-so, stops-so, ends-so, deeps-so}
 
@@ -86,3 +87,7 @@ module _ (text : List ℕ) where
   -- 15: exactly at the bracket that opens level 65
   pub fifteen-means : (place : ℕ) → (scriptRead text ≡ refused (refuse 15 place)) ↔ DeepAt text place
   fifteen-means place = (tells-fifteen place (told text), deeps-so text place)
+
+  -- and that token is an opening bracket
+  pub deep-bracket : (place : ℕ) (r : DeepAt text place) → r .at .token ≡ opening
+  deep-bracket place r = opens-deep (plainTokens (r .before)) (r .at .token) (r .shallow) (r .deep)
