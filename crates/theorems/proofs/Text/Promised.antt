@@ -18,11 +18,9 @@ use Rattle.definitions.specs.declared.Refusal.{Refusal}
 use Rattle.definitions.specs.declared.Reading.{Reading}
 use Rattle.theorems.specs.ReadConditions.{TakesText, RefusesText}
 use Rattle.theorems.proofs.Unique.{reading-apart}
+use Rattle.theorems.proofs.Laws.Tests.{clash}
 use Rattle.theorems.proofs.Text.Taken.Exactly.{read-means}
 use Rattle.theorems.proofs.Text.Refused.{takes-exactly, refuses-exactly}
-
-clash : {A : Type 0} → _≡_ {A = ℕ} 0 1 → A
-clash z = absurd (omega arith)
 
 module _ (text problem : List ℕ) (r : Reading) (problem′ : List ℕ) (promise : ReadPromise text problem r problem′) where
   -- the answer and the buffer, by what is taken

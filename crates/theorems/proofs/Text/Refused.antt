@@ -39,7 +39,7 @@ use Rattle.definitions.specs.declared.Refusal.the-variants.{
 use Rattle.theorems.specs.Conditions.{place}
 use Rattle.theorems.specs.Texts.{ReadAs, StopsAt, EndsEarly, Told, read, stops, ends, deep}
 use Rattle.theorems.specs.ReadConditions.{FewNodes, FewFunctions, FewPredicates, TakesText, RefusesText}
-use Rattle.theorems.proofs.Laws.Tests.{split, some-same, none≢some}
+use Rattle.theorems.proofs.Laws.Tests.{clash}
 use Rattle.theorems.proofs.Unique.{refusal-apart}
 use Rattle.theorems.proofs.Text.Taken.Told.{told}
 use Rattle.theorems.proofs.Text.Taken.Exactly.{place-inside, read-means, fourteen-means, fifteen-means}
@@ -173,13 +173,13 @@ module _ (text : List ℕ) (room : ℕ) where
     where
       go : {a : Answer Script} → Says text room a → a ≡ given s → TakesText text room s
       go (takes r t) e = let same : r ≡ s = cc in subst (TakesText text room) same t
-      go (refuses x r) e = absurd (let z : _≡_ {A = ℕ} 0 1 = cc in omega arith)
+      go (refuses x r) e = clash (cc)
 
   pub refuses-exactly : (x : Refusal) → (taken text room ≡ refused (refusalRead x)) ↔ RefusesText text room x
   refuses-exactly x = (go says, refuses-so x)
     where
       go : {a : Answer Script} → Says text room a → a ≡ refused (refusalRead x) → RefusesText text room x
-      go (takes r t) e = absurd (let z : _≡_ {A = ℕ} 0 1 = cc in omega arith)
+      go (takes r t) e = clash (cc)
       go (refuses y r) e = let same : refusalRead y ≡ refusalRead x = cc in subst (RefusesText text room) (refusal-apart y x same) r
 
   -- some answer is read's, whatever the text

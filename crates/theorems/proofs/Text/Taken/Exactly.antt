@@ -12,6 +12,7 @@ use Rattle.definitions.specs.Text.Tokens.{opening, Placed, tokensOf}
 use Rattle.definitions.specs.Text.Grammar.{Script}
 use Rattle.definitions.specs.Text.Reader.{scriptRead}
 use Rattle.theorems.specs.Texts.{plainTokens, Rises, ReadAs, StopsAt, EndsEarly, DeepAt, Told, read, stops, ends, deep}
+use Rattle.theorems.proofs.Laws.Tests.{clash}
 use Rattle.theorems.proofs.Text.Taken.Lexed.{places-rise}
 use Rattle.theorems.proofs.Text.Taken.Depth.{opens-deep}
 use Rattle.theorems.proofs.Text.Taken.Told.{told}
@@ -24,9 +25,6 @@ rises-at low high (p ∷ ps) at after r = rises-at (suc (p .place)) high ps at a
 
 pub place-inside : (text : List ℕ) (before : List Placed) (at : Placed) (after : List Placed) → tokensOf text ≡ before ++ (at ∷ after) → at .place < length text
 place-inside text before at after e = rises-at 0 (length text) before at after (subst (Rises 0 (length text)) e (places-rise text))
-
-clash : {A : Type 0} → _≡_ {A = ℕ} 0 1 → A
-clash z = absurd (omega arith)
 
 -- a refusal tells its number and its place
 refused-same : {A : Type 0} (r q : Refused) → _≡_ {A = Answer A} (refused r) (refused q) → (r .number ≡ q .number) × (r .place ≡ q .place)
