@@ -15,10 +15,10 @@ use Rattle.definitions.specs.Text.Reader.{Stage, exact, naming, commanding, dec
 use Rattle.theorems.specs.Texts.{opens, closes, Shallow}
 use Rattle.theorems.proofs.Laws.Tests.{split}
 use Rattle.theorems.proofs.Text.Taken.Runs.{runs}
-use Rattle.theorems.proofs.Text.Taken.Levels.{opens-append, closes-append, owed, inv-upper, inv-deep}
-use Rattle.theorems.proofs.Text.Taken.Sound.{keep-run, start-inv}
-use Rattle.theorems.proofs.Text.Taken.Finishing.{CanAt}
-use Rattle.theorems.proofs.Text.Taken.Able.{can-run, can-start}
+use Rattle.theorems.proofs.Text.Taken.Kept.Levels.{opens-append, closes-append, owed, inv-upper, inv-deep}
+use Rattle.theorems.proofs.Text.Taken.Kept.Sound.{keep-run, start-inv}
+use Rattle.theorems.proofs.Text.Taken.Finished.Finishing.{CanAt}
+use Rattle.theorems.proofs.Text.Taken.Finished.Able.{can-run, can-start}
 
 -- where a state is no deeper than 64, at most 65 brackets are open
 few : (sig : List Symbol) (stage : Stage) → CanAt sig stage → levelOf stage ≤ 64 → owed stage ≤ 65

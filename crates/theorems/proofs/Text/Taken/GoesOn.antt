@@ -13,9 +13,9 @@ use Rattle.theorems.proofs.Laws.All.{all-append}
 use Rattle.theorems.proofs.Text.Taken.Runs.{runs, runs-append, runs-prefix}
 use Rattle.theorems.proofs.Text.Taken.Spelling.{spellable, spell, spells, spell-bytes}
 use Rattle.theorems.proofs.Text.Taken.Lexed.{lexed}
-use Rattle.theorems.proofs.Text.Taken.Sound.{read-subset}
-use Rattle.theorems.proofs.Text.Taken.Able.{finishes}
-use Rattle.theorems.proofs.Text.Taken.Complete.{ending, run-script}
+use Rattle.theorems.proofs.Text.Taken.Kept.Sound.{read-subset}
+use Rattle.theorems.proofs.Text.Taken.Finished.Able.{finishes}
+use Rattle.theorems.proofs.Text.Taken.Written.Scripts.{ending, run-script}
 
 -- tokens that are taken begin a text of the subset: they are read out, and all of it is spelled
 pub taken-goes-on : (ts : List Token) (y : State) → runs start ts ≡ some y → all lexed ts ≡ true → GoesOn ts
