@@ -23,6 +23,7 @@ use Rattle.definitions.specs.declared.Refusal.{Refusal}
 use Rattle.definitions.specs.declared.Decision.{Decision}
 use Rattle.theorems.specs.Conditions.{number, Refuses, PassesTwelve, Passes}
 use Rattle.theorems.specs.Searched.{Falsifiable, tableTruth, triedOf, triedWithin}
+use Rattle.theorems.proofs.Laws.Tests.{clash}
 use Rattle.theorems.proofs.Accepted.{Accepted}
 use Rattle.theorems.proofs.Exactly.{valid-sound, falsified-sound, stopped-sound, valid-exactly, falsified-exactly, stopped-exactly}
 use Rattle.theorems.proofs.Search.Verdict.{countOf, tried-is}
@@ -52,9 +53,6 @@ decision-tried s (stopped t) = refl
 
 -- it tells the outcome
 module _ (s : List ℕ) (tried places : ℕ) where
-  clash : {A : Type 0} → _≡_ {A = ℕ} 0 1 → A
-  clash z = absurd (omega arith)
-
   says-valid : (o : Outcome) → decisionOf s o ≡ Decision.Valid tried places → (o ≡ valid tried) × (places ≡ product s)
   says-valid (valid t) e = (cc, cc)
   says-valid (falsified t) e = clash (cc)

@@ -4,3 +4,4 @@ pub mod Classes
 pub mod Called
 pub mod Texts
 pub mod Origins
+pub mod ReadConditions

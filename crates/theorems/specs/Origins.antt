@@ -5,7 +5,8 @@ use Prim.Native.Nat.{ℕ, _<_, _≤_}
 use mathlib.Core.List.{List, []}
 use lib.ListN.{length, take}
 use Rattle.definitions.specs.Problem.Node.{Node, node}
-use Rattle.definitions.specs.Text.Nodes.{Tree, absent, tree, operand, notTree, joined}
+use Rattle.definitions.specs.Text.Grammar.{Script, assertsIn}
+use Rattle.definitions.specs.Text.Nodes.{Tree, absent, tree, operand, notTree, joined, assertTrees}
 
 -- node k of a table is that of a tree: it has the tree's op and symbol, and its operands' numbers are those of nodes of the tree's
 -- operands; the number of an absent operand is 0
@@ -29,3 +30,11 @@ pub data Origin (ts : List Tree) : Tree → Type 0 where
   of-join : (n : ℕ) → 2 ≤ n → n ≤ length ts → Origin ts (joined (take n ts))
   of-none : ts ≡ [] → Origin ts (joined [])
   of-negation : Origin ts (notTree (joined ts))
+
+-- the trees of a script's asserts
+abbrev pub treesOfScript : Script → List Tree
+treesOfScript s = assertTrees (assertsIn (s .commands))
+
+-- "equal nodes stand once"
+abbrev pub NoTwins : List Node → Type 0
+NoTwins t = (i j : ℕ) → i < length t → j < length t → node t i ≡ node t j → i ≡ j

@@ -225,12 +225,8 @@ written s =
     HEADER ++ (symbol (s .sortName) ∷ nought ∷ closing ∷ commandsWritten (s .sortName) [] (s .commands))
     ++ (opening ∷ word (ascii "check-sat") ∷ closing ∷ [])
 
--- tokens that write a right script; and tokens with which such a one begins
+-- tokens that write a right script
 pub record Subset (ts : List Token) : Type 0 where
   pub script : Script
   pub right : scriptRight script ≡ true
   pub writes : written script ≡ ts
-
-pub record Viable (ts : List Token) : Type 0 where
-  pub rest : List Token
-  pub whole : Subset (ts ++ rest)

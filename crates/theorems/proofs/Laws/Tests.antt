@@ -51,3 +51,7 @@ module _ {A : Type 0} where
 
   pub none≢some : {x : A} → _≡_ {A = Option A} none (some x) → ⊥
   none≢some e = let z : _≡_ {A = ℕ} 0 1 = cc in omega arith
+
+-- two constructors are never equal: `cc` proves 0 ≡ 1 from such an equation
+pub clash : {A : Type 0} → _≡_ {A = ℕ} 0 1 → A
+clash z = absurd (omega arith)

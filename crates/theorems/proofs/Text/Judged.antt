@@ -1,4 +1,4 @@
--- What the promises of read and decide say together, case by case: the lemmas below the top of texts. Assumes nothing.
+-- What decide's promise says of the problem of a text that is taken, case by case: the lemmas below the top of texts. Assumes nothing.
 use mathlib.Core.Path.{_≡_, refl, sym, ap, _∙_, subst}
 use Prim.Native.Nat.{ℕ, _^_, _≤_}
 use native.Mathlib.Omega.{arith}
@@ -44,10 +44,11 @@ use Rattle.definitions.specs.declared.Reading.{Reading}
 use Rattle.theorems.specs.Conditions.{Meets, Passes, PassesTwelve}
 use Rattle.theorems.specs.Searched.{Falsifiable}
 use Rattle.theorems.specs.Texts.{Sat}
+use Rattle.theorems.specs.ReadConditions.{TakesText}
 use Rattle.theorems.proofs.Laws.First.{first-none}
 use Rattle.theorems.proofs.Refusing.{passes-twelve}
 use Rattle.theorems.proofs.Top.{refused-means, taken-means, valid-means, falsified-means, stopped-means, enough-means}
-use Rattle.theorems.proofs.Text.Taken.Texts.{taken-means as taken-reads, text-means, text-taken, valid-unsat, unsat-valid}
+use Rattle.theorems.proofs.Text.Problems.{text-taken, unsat-exactly, asserts-true, sat-exactly}
 
 -- where check takes a problem, decide can refuse it only for its buffers or its product
 module _ (s : List ℕ) (work room : ℕ) (ok : refusalOf s ≡ none) where
@@ -84,116 +85,58 @@ module _ (s : List ℕ) (work room : ℕ) (ok : refusalOf s ≡ none) where
       ]
 
 module _
-    (text problem : List ℕ)
-    (written : ℕ)
-    (problem′ : List ℕ)
-    (reading : ReadPromise text problem (Reading.Problem written) problem′) where
-  -- a text that is answered with a problem is taken
-  script-taken : (s : Script) × (taken text (length problem) ≡ given s)
-  unfolding readAnswer
-  script-taken = go (taken text (length problem)) refl (reading .answers)
-    where
-      go : (a : Answer Script) → taken text (length problem) ≡ a → given written ≡ lengthRead a → (s : Script) × (taken text (length problem) ≡ given s)
-      go (refused r) e f = absurd (let z : _≡_ {A = ℕ} 0 1 = cc in omega arith)
-      go (given s) e f = (s, e)
+    (text : List ℕ)
+    (room : ℕ)
+    (s : Script)
+    (takes : TakesText text room s)
+    (budget : ℕ)
+    (work witness : List ℕ)
+    (d : Decision)
+    (work′ witness′ : List ℕ)
+    (asked : DecidePromise budget (problemOfScript s) work witness d work′ witness′) where
+  abbrev on : List ℕ
+  on = problemOfScript s
 
-  pub script-read : (s : Script) × (scriptRead text ≡ given s)
-  script-read = (script-taken .0, taken-reads text (length problem) (script-taken .0) (script-taken .1) .reads)
+  ok : refusalOf on ≡ none
+  ok = text-taken text room s takes
 
-  module _ (s : Script) (reads : scriptRead text ≡ given s) where
-    taken-so : taken text (length problem) ≡ given s
-    unfolding script-taken script-read
-    taken-so = go (script-taken .0) (script-taken .1) (script-read .1)
+  pub refused-judged : (x : Refusal) → d ≡ Decision.Refused x → (x ≡ ShortWork) ⊎ ((x ≡ ShortWitness) ⊎ (x ≡ BigProduct))
+  refused-judged x e =
+      left-over on (length work) (length witness) ok x (refused-means budget on work witness d work′ witness′ asked x .0 .0 e .0)
+
+  pub valid-judged : (tried places : ℕ) → d ≡ Decision.Valid tried places → Unsat s
+  valid-judged tried places e = unsat-exactly text room s takes .1 (valid-means budget on work witness d work′ witness′ asked tried places e .3)
+
+  pub falsified-judged : (tried places bytes : ℕ) → d ≡ Decision.Falsified tried places bytes → assertsTrue (tablesOf witness′) s ≡ true
+  falsified-judged tried places bytes e =
+      asserts-true text room s takes (tablesOf witness′) (falsified-means budget on work witness d work′ witness′ asked tried places bytes e .6)
+
+  -- with room for the job and a budget of at least the product, the verdict is the script's
+  module _ (work-long : 21056 ≤ length work) (room-long : 206 ≤ length witness) (small : product on ≤ 10 ^ 18) (enough : product on ≤ budget) where
+    both : ((d ≡ Decision.Valid (product on) (product on)) ↔ Valid on)
+        × (((tried bytes : ℕ) × (d ≡ Decision.Falsified tried (product on) bytes)) ↔ Falsifiable on)
+    both =
+        enough-means budget on work witness d work′ witness′ asked
+        (all-pass on (length work) (length witness) ok work-long room-long small) enough
+
+    pub unsat-judged : (d ≡ Decision.Valid (product on) (product on)) ↔ Unsat s
+    unsat-judged = (λ e. unsat-exactly text room s takes .1 (both .0 .0 e), λ u. both .0 .1 (unsat-exactly text room s takes .0 u))
+
+    pub sat-judged : ((tried bytes : ℕ) × (d ≡ Decision.Falsified tried (product on) bytes)) ↔ Sat s
+    sat-judged = (λ e. sat-exactly text room s takes .1 (both .1 .0 e), λ m. both .1 .1 (sat-exactly text room s takes .0 m))
+
+    -- some verdict comes, and it is not stopped
+    pub not-unsat-judged : (Unsat s → ⊥) → (tried bytes : ℕ) × (d ≡ Decision.Falsified tried (product on) bytes)
+    not-unsat-judged n = go d refl
       where
-        go : (r : Script) → taken text (length problem) ≡ given r → scriptRead text ≡ given r → taken text (length problem) ≡ given s
-        go r p q = cc
-
-    written-so : written ≡ length (problemOfScript s)
-    unfolding readAnswer
-    written-so = go (reading .answers ∙ ap lengthRead taken-so)
-      where
-        go : given written ≡ given (length (problemOfScript s)) → written ≡ length (problemOfScript s)
-        go e = cc
-
-    buffer-so : problem′ ≡ over (problemOfScript s) problem
-    unfolding readBuffer
-    buffer-so = reading .problem-after ∙ ap (λ (a : Answer Script). bufferRead a problem) taken-so
-
-    -- the bytes that it is answered with are the script's problem
-    pub problem-so : take written problem′ ≡ problemOfScript s
-    problem-so =
-        ap (take written) buffer-so
-        ∙ take-at (problemOfScript s) (drop (length (problemOfScript s)) problem) written (sym written-so)
-
-    pub problem-written : (written ≡ length (problemOfScript s)) × (problem′ ≡ over (problemOfScript s) problem)
-    problem-written = (written-so, buffer-so)
-
-    -- an interpretation makes the problem false exactly if it makes every assert true
-    asserts-true : (I : Interpretation) → holds I (problemOfScript s) ≡ false → assertsTrue I s ≡ true
-    asserts-true I e = not-false (assertsTrue I s) (sym (text-means text (length problem) s taken-so I) ∙ e)
-
-    sat-exactly : Sat s ↔ Falsifiable (problemOfScript s)
-    sat-exactly = (
-      λ m. (m .0, text-means text (length problem) s taken-so (m .0) ∙ ap not (m .1)),
-      λ m. (m .0, asserts-true (m .0) (m .1)),
-    )
-
-    pub unsat-exactly : Unsat s ↔ Valid (problemOfScript s)
-    unsat-exactly = (unsat-valid text (length problem) s taken-so, valid-unsat text (length problem) s taken-so)
-
-    module _
-        (budget : ℕ)
-        (work witness : List ℕ)
-        (d : Decision)
-        (work′ witness′ : List ℕ)
-        (decision : DecidePromise budget (take written problem′) work witness d work′ witness′) where
-      -- decide was asked about the script's problem
-      abbrev on : List ℕ
-      on = problemOfScript s
-
-      asked : DecidePromise budget on work witness d work′ witness′
-      asked = subst (λ (p : List ℕ). DecidePromise budget p work witness d work′ witness′) problem-so decision
-
-      ok : refusalOf on ≡ none
-      ok = text-taken text (length problem) s taken-so
-
-      pub refused-judged : (x : Refusal) → d ≡ Decision.Refused x → (x ≡ ShortWork) ⊎ ((x ≡ ShortWitness) ⊎ (x ≡ BigProduct))
-      refused-judged x e =
-          left-over on (length work) (length witness) ok x (refused-means budget on work witness d work′ witness′ asked x .0 .0 e .0)
-
-      pub valid-judged : (tried places : ℕ) → d ≡ Decision.Valid tried places → Unsat s
-      valid-judged tried places e = unsat-exactly .1 (valid-means budget on work witness d work′ witness′ asked tried places e .3)
-
-      pub falsified-judged : (tried places bytes : ℕ) → d ≡ Decision.Falsified tried places bytes → assertsTrue (tablesOf witness′) s ≡ true
-      falsified-judged tried places bytes e =
-          asserts-true (tablesOf witness′) (falsified-means budget on work witness d work′ witness′ asked tried places bytes e .6)
-
-      -- with room for the job and a budget of at least the product, the verdict is the script's
-      module _ (work-long : 21056 ≤ length work) (room-long : 206 ≤ length witness) (small : product on ≤ 10 ^ 18) (enough : product on ≤ budget) where
-        both : ((d ≡ Decision.Valid (product on) (product on)) ↔ Valid on)
-            × (((tried bytes : ℕ) × (d ≡ Decision.Falsified tried (product on) bytes)) ↔ Falsifiable on)
-        both =
-            enough-means budget on work witness d work′ witness′ asked
-            (all-pass on (length work) (length witness) ok work-long room-long small) enough
-
-        pub unsat-judged : (d ≡ Decision.Valid (product on) (product on)) ↔ Unsat s
-        unsat-judged = (λ e. unsat-exactly .1 (both .0 .0 e), λ u. both .0 .1 (unsat-exactly .0 u))
-
-        pub sat-judged : ((tried bytes : ℕ) × (d ≡ Decision.Falsified tried (product on) bytes)) ↔ Sat s
-        sat-judged = (λ e. sat-exactly .1 (both .1 .0 e), λ m. both .1 .1 (sat-exactly .0 m))
-
-        -- some verdict comes, and it is not stopped
-        pub not-unsat-judged : (Unsat s → ⊥) → (tried bytes : ℕ) × (d ≡ Decision.Falsified tried (product on) bytes)
-        not-unsat-judged n = go d refl
-          where
-            go : (r : Decision) → d ≡ r → (tried bytes : ℕ) × (d ≡ Decision.Falsified tried (product on) bytes)
-            go (Decision.Valid tried places) e = absurd (n (valid-judged tried places e))
-            go (Decision.Falsified tried places bytes) e =
-                let places-are = falsified-means budget on work witness d work′ witness′ asked tried places bytes e .0 in
-                (tried, bytes, e ∙ ap (λ (k : ℕ). Decision.Falsified tried k bytes) places-are)
-            go (Decision.Stopped tried places) e =
-                let b = stopped-means budget on work witness d work′ witness′ asked tried places e .2 in absurd (omega arith)
-            go (Decision.Refused x) e =
-                absurd
-                (taken-means budget on work witness d work′ witness′ asked .1
-                (all-pass on (length work) (length witness) ok work-long room-long small) x e)
+        go : (r : Decision) → d ≡ r → (tried bytes : ℕ) × (d ≡ Decision.Falsified tried (product on) bytes)
+        go (Decision.Valid tried places) e = absurd (n (valid-judged tried places e))
+        go (Decision.Falsified tried places bytes) e =
+            let places-are = falsified-means budget on work witness d work′ witness′ asked tried places bytes e .0 in
+            (tried, bytes, e ∙ ap (λ (k : ℕ). Decision.Falsified tried k bytes) places-are)
+        go (Decision.Stopped tried places) e =
+            let b = stopped-means budget on work witness d work′ witness′ asked tried places e .2 in absurd (omega arith)
+        go (Decision.Refused x) e =
+            absurd
+            (taken-means budget on work witness d work′ witness′ asked .1
+            (all-pass on (length work) (length witness) ok work-long room-long small) x e)

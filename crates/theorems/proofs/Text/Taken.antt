@@ -1,21 +1,12 @@
--- Which tokens are taken: exactly those that a text of the subset can go on with.
+-- Which tokens are taken: exactly those that a text of the subset can go on with. So each answer of the reader stands where it should.
 pub mod Runs
 pub mod Spelling
 pub mod Lexed
-pub mod Invariant
-pub mod Levels
-pub mod Commands
-pub mod Sound
-pub mod Constants
-pub mod Finishing
-pub mod Names
-pub mod Able
-pub mod Resolve
-pub mod RunTerms
-pub mod Complete
+pub mod Kept
+pub mod Finished
+pub mod Written
 pub mod GoesOn
 pub mod Depth
 pub mod Told
 pub mod Answered
 pub mod Exactly
-pub mod Texts

@@ -8,7 +8,8 @@ use mathlib.Core.Option.{Option, none, some}
 use lib.ListN.{length, length-append, List·getD-append}
 use Rattle.definitions.specs.Problem.Node.{Node, node, noNode, plain}
 use Rattle.definitions.specs.Text.Nodes.{Tree, absent, tree, Laid, laid, placeOf, foundOr, ask, lay, layAll, joined, nodesOfTrees}
-use Rattle.theorems.proofs.Text.Meant.Shared.{ask-given, NoTwins, scan-some, scan-none}
+use Rattle.theorems.specs.Origins.{NoTwins}
+use Rattle.theorems.proofs.Text.Meant.Shared.{ask-given, scan-some, scan-none}
 
 -- a table only grows
 pub lay-extends : (x : Tree) (t : List Node) → (more : List Node) × (lay x t .table ≡ t ++ more)

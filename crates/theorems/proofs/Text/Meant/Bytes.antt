@@ -53,7 +53,7 @@ lay-number (tree op k a b c) t =
     omega arith
 
 -- laying keeps this, for every bound that the longer table stays within
-lay-longer : (x : Tree) (t : List Node) → length t ≤ length (lay x t .table)
+pub lay-longer : (x : Tree) (t : List Node) → length t ≤ length (lay x t .table)
 lay-longer x t = let e = lay-extends x t in let l : length (lay x t .table) ≡ length t + length (e .0) = ap length (e .1) ∙ length-append t (e .0) in omega arith
 
 ask-small : (m : ℕ) (n : Node) (t : List Node) → AllSmall m t → Small m n → AllSmall m (ask n t .table)
@@ -82,7 +82,7 @@ lay-small m (tree op k a b c) t h s =
     (lay-small m c (y .table) lz (lay-small m b (x .table) (omega arith) (lay-small m a t (omega arith) s)))
     (omega arith, omega arith, omega arith)
 
-all-longer : (xs : List Tree) (t : List Node) → length t ≤ length (layAll xs t)
+pub all-longer : (xs : List Tree) (t : List Node) → length t ≤ length (layAll xs t)
 all-longer [] t = omega arith
 all-longer (x ∷ xs) t = let h = lay-longer x t in let g = all-longer xs (lay x t .table) in omega arith
 

@@ -9,16 +9,17 @@ use mathlib.Core.List.{List, [], _∷_, _++_}
 use lib.ListN.{length, take, drop, length-append}
 use Rattle.definitions.specs.Problem.Node.{Node, node, plain}
 use Rattle.definitions.specs.Problem.Ops.{operandsOf}
-use Rattle.definitions.specs.Text.Grammar.{Script, newSort, commandsRight, scriptRight}
-use Rattle.definitions.specs.Text.Nodes.{Tree, absent, tree, operand, pair, notTree, leftward, rightward, Laid, lay, layAll, joined, nodesOfTrees, nodesOfScript, bytesOfScript}
-use Rattle.theorems.specs.Origins.{NodeOf, PartOf, itself, in-first, in-second, in-third}
+use Rattle.definitions.specs.Problem.Ops.{term, formula}
+use Rattle.definitions.specs.Text.Grammar.{Head, declared, ite, equals, negation, conjunction, disjunction, implication, verum, falsum, Script, newSort, commandsRight, scriptRight}
+use Rattle.definitions.specs.Text.Nodes.{Tree, absent, tree, operand, over3, pair, grouped, equations, headTree, notTree, leftward, rightward, Laid, lay, layAll, joined, nodesOfTrees, nodesOfScript, bytesOfScript}
+use Rattle.theorems.specs.Origins.{NodeOf, PartOf, itself, in-first, in-second, in-third, treesOfScript}
 use Rattle.theorems.proofs.Laws.Tests.{and-right}
 use Rattle.theorems.proofs.Laws.Ops.{AllBelow}
 use Rattle.theorems.proofs.Text.Meant.Shared.{Earlier}
 use Rattle.theorems.proofs.Text.Meant.Laying.{Present, AllPresent, Absent, AllAbsent, used, Full, lay-right, all-earlier}
-use Rattle.theorems.proofs.Text.Meant.Paired.{AllGood}
+use Rattle.theorems.proofs.Text.Meant.Paired.{AllGood, Fits}
 use Rattle.theorems.proofs.Text.Meant.Reading.{anything, asserted, full-of, joined-good}
-use Rattle.theorems.proofs.Text.Meant.Origins.{lay-node, treesOfScript}
+use Rattle.theorems.proofs.Text.Meant.Origins.{lay-node}
 
 abbrev pub height : Tree → ℕ
 height absent = 0
@@ -85,15 +86,64 @@ rightward-height (absent ∷ []) p = absurd (p .0)
 rightward-height (tree op k a b c ∷ []) p = omega arith
 rightward-height (a ∷ b ∷ ts) p = let h = rightward-height (b ∷ ts) (p .1) in omega arith
 
-member-height : (t : Tree) (us : List Tree) (i : ℕ) → i < length us → height (operand us i) ≤ height (leftward 4 t us)
-member-height t [] i h = absurd (omega arith)
-member-height t (u ∷ us) zero h = let l = leftward-height 4 (pair 4 t u) us in omega arith
-member-height t (u ∷ us) (suc i) h = member-height (pair 4 t u) us i (omega arith)
+member-height : (op : ℕ) (t : Tree) (us : List Tree) (i : ℕ) → i < length us → height (operand us i) ≤ height (leftward op t us)
+member-height op t [] i h = absurd (omega arith)
+member-height op t (u ∷ us) zero h = let l = leftward-height op (pair op t u) us in omega arith
+member-height op t (u ∷ us) (suc i) h = member-height op (pair op t u) us i (omega arith)
+
+grouped-height : (op : ℕ) (ts : List Tree) (i : ℕ) → i < length ts → height (operand ts i) ≤ height (grouped op ts)
+grouped-height op [] i h = absurd (omega arith)
+grouped-height op (t ∷ us) zero h = let l = leftward-height op t us in omega arith
+grouped-height op (t ∷ us) (suc i) h = member-height op t us i (omega arith)
+
+-- each member of => stands as deep as there are members before it
+pub rightward-member : (ts : List Tree) (i : ℕ) → i < length ts → i + height (operand ts i) ≤ height (rightward ts)
+rightward-member [] i h = absurd (omega arith)
+rightward-member (a ∷ []) zero h = omega arith
+rightward-member (a ∷ []) (suc i) h = absurd (omega arith)
+rightward-member (a ∷ b ∷ ts) zero h = omega arith
+rightward-member (a ∷ b ∷ ts) (suc i) h = let l = rightward-member (b ∷ ts) i (omega arith) in omega arith
+
+-- each argument of = stands in an equation
+equation-member : (ts : List Tree) (i : ℕ) → i < length ts → 2 ≤ length ts
+    → (j : ℕ) × ((j < length (equations ts)) × (height (operand ts i) ≤ height (operand (equations ts) j)))
+equation-member [] i h l = absurd (omega arith)
+equation-member (a ∷ []) i h l = absurd (omega arith)
+equation-member (a ∷ b ∷ ts) zero h l = (0, (omega arith, omega arith))
+equation-member (a ∷ b ∷ ts) (suc zero) h l = (0, (omega arith, omega arith))
+equation-member (a ∷ b ∷ ts) (suc (suc i)) h l =
+    let r = equation-member (b ∷ ts) (suc i) (omega arith) (omega arith) in
+    let m = r .1 .0 in
+    (suc (r .0), (omega arith, r .1 .1))
+
+-- a term is at least as high as each of its arguments
+over3-height : (op k : ℕ) (ts : List Tree) (i : ℕ) → i < length ts → length ts ≤ 3 → height (operand ts i) ≤ height (over3 op k ts)
+over3-height op k ts zero h l = omega arith
+over3-height op k ts (suc zero) h l = omega arith
+over3-height op k ts (suc (suc zero)) h l = omega arith
+over3-height op k ts (suc (suc (suc i))) h l = absurd (omega arith)
+
+pub head-height : (symbols : List ℕ) (h : Head) (ts : List Tree) → Fits symbols h ts → (i : ℕ) → i < length ts → height (operand ts i) ≤ height (headTree h ts)
+head-height symbols (declared term k) ts f i l = over3-height 0 k ts i l (f .1)
+head-height symbols (declared formula k) ts f i l = over3-height 6 k ts i l (f .1)
+head-height symbols (ite term) ts f i l = over3-height 1 0 ts i l (omega arith)
+head-height symbols (ite formula) ts f i l = over3-height 9 0 ts i l (omega arith)
+head-height symbols equals ts f i l =
+    let r = equation-member ts i l f in
+    let m = grouped-height 4 (equations ts) (r .0) (r .1 .0) in
+    let e = r .1 .1 in
+    omega arith
+head-height symbols negation ts f zero l = omega arith
+head-height symbols negation ts f (suc i) l = absurd (omega arith)
+head-height symbols conjunction ts f i l = grouped-height 4 ts i l
+head-height symbols disjunction ts f i l = grouped-height 5 ts i l
+head-height symbols implication ts f i l = let m = rightward-member ts i l in omega arith
+head-height symbols verum ts f i l = absurd (omega arith)
+head-height symbols falsum ts f i l = absurd (omega arith)
 
 joined-height : (ts : List Tree) (i : ℕ) → i < length ts → height (operand ts i) ≤ height (joined ts)
 joined-height [] i h = absurd (omega arith)
-joined-height (t ∷ us) zero h = let l = leftward-height 4 t us in omega arith
-joined-height (t ∷ us) (suc i) h = member-height t us i (omega arith)
+joined-height (t ∷ us) i h = grouped-height 4 (t ∷ us) i h
 
 joined-many : (symbols : List ℕ) (ts : List Tree) → AllGood symbols ts → length ts ≤ height (joined ts)
 joined-many symbols [] g = omega arith

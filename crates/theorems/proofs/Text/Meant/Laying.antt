@@ -11,7 +11,8 @@ use Rattle.definitions.specs.Problem.Ops.{opOf, arity, operandSorts, countOf, f
 use Rattle.definitions.specs.Logic.{Interpretation, Value, number, numberOf, valueAt, numberAt, opValue, nodeValue, values}
 use Rattle.theorems.proofs.Laws.Ops.{AllBelow, Alike, op-alike, app-alike}
 use Rattle.definitions.specs.Text.Nodes.{Tree, absent, tree, Laid, ask, lay, layAll}
-use Rattle.theorems.proofs.Text.Meant.Shared.{Earlier, NoTwins, ask-given, ask-earlier, ask-twins, ask-value, values-kept}
+use Rattle.theorems.specs.Origins.{NoTwins}
+use Rattle.theorems.proofs.Text.Meant.Shared.{Earlier, ask-given, ask-earlier, ask-twins, ask-value, values-kept}
 
 -- a node whose operands are the first three values in hand
 abbrev pub ownNode : ℕ → ℕ → Node

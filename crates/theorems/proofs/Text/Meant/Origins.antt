@@ -12,7 +12,8 @@ use Rattle.definitions.specs.Lists.{snoc}
 use Rattle.definitions.specs.Problem.Node.{Node, node, noNode, plain}
 use Rattle.definitions.specs.Text.Grammar.{Script, assertsIn}
 use Rattle.definitions.specs.Text.Nodes.{Tree, absent, tree, operand, pair, notTree, leftward, Laid, placeOf, foundOr, ask, lay, layAll, joined, assertTrees, ended, nodesOfTrees, nodesOfScript}
-use Rattle.theorems.specs.Origins.{NodeOf, PartOf, itself, in-first, in-second, in-third, Origin, of-term, of-join, of-none, of-negation}
+use Rattle.theorems.specs.Origins.{NodeOf, PartOf, itself, in-first, in-second, in-third, Origin, of-term, of-join, of-none, of-negation, treesOfScript}
+use Rattle.theorems.proofs.Laws.Tests.{clash}
 use Rattle.theorems.proofs.Text.Meant.Shared.{ask-given, last-or-before}
 use Rattle.theorems.proofs.Text.Meant.Again.{lay-extends, all-extends}
 
@@ -129,10 +130,10 @@ joined-next (t ∷ us) (suc m) h l =
 
 -- the parts of what joins the asserts are theirs and the joins
 no-part : {y x : Tree} → x ≡ absent → PartOf y x → ⊥
-no-part e itself = let z : _≡_ {A = ℕ} 0 1 = cc in omega arith
-no-part e (in-first p) = let z : _≡_ {A = ℕ} 0 1 = cc in omega arith
-no-part e (in-second p) = let z : _≡_ {A = ℕ} 0 1 = cc in omega arith
-no-part e (in-third p) = let z : _≡_ {A = ℕ} 0 1 = cc in omega arith
+no-part e itself = clash (cc)
+no-part e (in-first p) = clash (cc)
+no-part e (in-second p) = clash (cc)
+no-part e (in-third p) = clash (cc)
 
 pair-parts : (P : Tree → Type 0) {u v y : Tree} → P (pair 4 u v) → ((x : Tree) → PartOf x u → P x) → ((x : Tree) → PartOf x v → P x) → PartOf y (pair 4 u v) → P y
 pair-parts P p q r itself = p
@@ -225,10 +226,6 @@ module _ (ts : List Tree) where
       subst (λ (us : List Tree). (k : ℕ) × NodeOf (nodesOfTrees ts) (joined us) k) e
       (whole .number, nodes-kept (joined ts) (whole .number) (lay-node (joined ts) (layAll ts [])))
   origin-node of-negation = (length (whole .table), negation-node)
-
--- the trees of a script's asserts
-abbrev pub treesOfScript : Script → List Tree
-treesOfScript s = assertTrees (assertsIn (s .commands))
 
 -- EVERY NODE is that of a part of an assert's tree, of a join or of the negation
 pub node-origin : (s : Script) (k : ℕ) → k < length (nodesOfScript s) → (x : Tree) × (Origin (treesOfScript s) x × NodeOf (nodesOfScript s) x k)

@@ -55,7 +55,7 @@ module _ (sig : List Symbol) where
 
 module _ (sig : List Symbol) (symbols : List ℕ)
     (agrees : (k : ℕ) → k < length sig → (arity symbols k ≡ symbolAt sig k .arity) × (symbolAt sig k .arity ≤ 3)) where
-  head-fits : (h : Head) (args : Terms) → headRight sig h ≡ true → termsRight sig (wantedBy sig h) args ≡ true → Fits symbols h (treesOf args)
+  pub head-fits : (h : Head) (args : Terms) → headRight sig h ≡ true → termsRight sig (wantedBy sig h) args ≡ true → Fits symbols h (treesOf args)
   head-fits (declared s k) args p e =
       let n = symbolAt sig k .arity in
       let a = agrees k (ltb-true k (length sig) (and-left _ (sameSort (symbolAt sig k .result) s) p)) in

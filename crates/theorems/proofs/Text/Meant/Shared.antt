@@ -15,6 +15,7 @@ use Rattle.definitions.specs.Lists.{snoc, firstFailing}
 use Rattle.definitions.specs.Problem.Node.{Node, node, noNode, same}
 use Rattle.definitions.specs.Problem.Ops.{operandsOf}
 use Rattle.definitions.specs.Logic.{Interpretation, Value, number, valueAt, nodeValue, values}
+use Rattle.theorems.specs.Origins.{NoTwins}
 use Rattle.theorems.proofs.Laws.Tests.{and-left, and-right, some-same, none≢some, split}
 use Rattle.theorems.proofs.Laws.Grown.{grown-prefix, length-grown}
 use Rattle.theorems.proofs.Laws.Ops.{AllBelow}
@@ -85,10 +86,6 @@ ask-given n t = go (placeOf n t) refl
 -- the operands in use of every node are earlier nodes
 abbrev pub Earlier : List ℕ → List Node → Type 0
 Earlier symbols t = (k : ℕ) → k < length t → AllBelow k (operandsOf symbols (node t k))
-
--- no two nodes are equal
-abbrev pub NoTwins : List Node → Type 0
-NoTwins t = (i j : ℕ) → i < length t → j < length t → node t i ≡ node t j → i ≡ j
 
 -- a number of a table with one more node is one of the table's or the new one's
 pub last-or-before : (t : List Node) (n : Node) (k : ℕ) → k < length (snoc t n) → (k < length t) ⊎ (k ≡ length t)

@@ -10,7 +10,8 @@ use Rattle.definitions.specs.Problem.Node.{Node, node, plain}
 use Rattle.theorems.proofs.Laws.Tests.{and-right}
 use Rattle.definitions.specs.Text.Grammar.{Script, symbolsIn, assertsIn, newSort, commandsRight, scriptRight}
 use Rattle.definitions.specs.Text.Nodes.{Tree, pair, leftward, Laid, lay, layAll, joined, assertTrees, ended, nodesOfScript, symbolBytes}
-use Rattle.theorems.proofs.Text.Meant.Shared.{Earlier, NoTwins, snoc-twins}
+use Rattle.theorems.specs.Origins.{NoTwins}
+use Rattle.theorems.proofs.Text.Meant.Shared.{Earlier, snoc-twins}
 use Rattle.theorems.proofs.Text.Meant.Laying.{AllFull, lay-right, all-earlier, lay-twins, all-twins}
 use Rattle.theorems.proofs.Text.Meant.Paired.{Good}
 use Rattle.theorems.proofs.Text.Meant.Reading.{anything, asserted, full-of, joined-good}

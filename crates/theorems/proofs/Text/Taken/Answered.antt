@@ -19,8 +19,8 @@ use Rattle.definitions.specs.Text.Reader.{State, start, step, levelOf, isFinish
 use Rattle.theorems.specs.Texts.{plainTokens, textTokens, GoesOn, opens, closes, Shallow, ReadAs, StopsAt, EndsEarly, DeepAt}
 use Rattle.theorems.proofs.Laws.Tests.{split, some-same, none≢some}
 use Rattle.theorems.proofs.Text.Taken.Runs.{runs, runs-step, runs-append, runs-prefix}
-use Rattle.theorems.proofs.Text.Taken.Sound.{read-subset}
-use Rattle.theorems.proofs.Text.Taken.Complete.{ending, run-script}
+use Rattle.theorems.proofs.Text.Taken.Kept.Sound.{read-subset}
+use Rattle.theorems.proofs.Text.Taken.Written.Scripts.{ending, run-script}
 use Rattle.theorems.proofs.Text.Taken.GoesOn.{taken-goes-on, goes-on-taken, not-taken}
 use Rattle.theorems.proofs.Text.Taken.Depth.{few-open, many-open, shallow-part}
 use Rattle.theorems.proofs.Text.Taken.Told.{plain-append, part-lexed}

@@ -1,24 +1,24 @@
 -- A state is deeper than 64 exactly where more than 65 brackets are open (02, E1: "the bracket opening level 65, a term's outer one
 -- being level 1"). Assumes nothing.
-use mathlib.Core.Path.{_≡_}
+use mathlib.Core.Path.{_≡_, refl}
 use Prim.Native.Nat.{zero, suc, _+_, _<_, _≤_}
 use native.Mathlib.Omega.{arith}
 use mathlib.Core.List.{List, [], _∷_, _++_}
 use mathlib.Core.Logic.{_⊎_, inl, inr}
 use mathlib.Core.Option.{some}
 use lib.ListN.{length, take, length-append}
-use lib.Seq.{take-append-le, take-append-seam, take-all}
+use lib.Seq.{take-append-le, take-append-seam, take-all, take-length}
 use Rattle.definitions.specs.Lists.{snoc}
-use Rattle.definitions.specs.Text.Tokens.{Token}
+use Rattle.definitions.specs.Text.Tokens.{Token, opening, closing, nought, wrong, symbol, word}
 use Rattle.definitions.specs.Text.Grammar.{Symbol}
 use Rattle.definitions.specs.Text.Reader.{Stage, exact, naming, commanding, declaring, finished, taking, giving, inside, heading, State, start, levelOf}
 use Rattle.theorems.specs.Texts.{opens, closes, Shallow}
 use Rattle.theorems.proofs.Laws.Tests.{split}
 use Rattle.theorems.proofs.Text.Taken.Runs.{runs}
-use Rattle.theorems.proofs.Text.Taken.Levels.{owed, inv-upper, inv-deep}
-use Rattle.theorems.proofs.Text.Taken.Sound.{keep-run, start-inv}
-use Rattle.theorems.proofs.Text.Taken.Finishing.{CanAt}
-use Rattle.theorems.proofs.Text.Taken.Able.{can-run, can-start}
+use Rattle.theorems.proofs.Text.Taken.Kept.Levels.{opens-append, closes-append, owed, inv-upper, inv-deep}
+use Rattle.theorems.proofs.Text.Taken.Kept.Sound.{keep-run, start-inv}
+use Rattle.theorems.proofs.Text.Taken.Finished.Finishing.{CanAt}
+use Rattle.theorems.proofs.Text.Taken.Finished.Able.{can-run, can-start}
 
 -- where a state is no deeper than 64, at most 65 brackets are open
 few : (sig : List Symbol) (stage : Stage) → CanAt sig stage → levelOf stage ≤ 64 → owed stage ≤ 65
@@ -57,3 +57,18 @@ shallow-snoc ts t s h j = go (split (length ts) j)
 -- at every point of tokens that are nowhere too deep, few are open
 pub shallow-part : (ts us : List Token) → Shallow (ts ++ us) → opens ts ≤ closes ts + 65
 shallow-part ts us s = rw take-append-seam at (s (length ts))
+
+-- what makes few into many is an opening bracket
+pub opens-deep : (ts : List Token) (t : Token) → Shallow ts → 66 + closes (snoc ts t) ≤ opens (snoc ts t) → t ≡ opening
+opens-deep ts t s h = go t (opens-append ts (t ∷ [])) (closes-append ts (t ∷ []))
+  where
+    some-open : opens ts ≤ closes ts + 65
+    some-open = rw take-length at (s (length ts))
+
+    go : (u : Token) → opens (snoc ts t) ≡ opens ts + opens (u ∷ []) → closes (snoc ts t) ≡ closes ts + closes (u ∷ []) → u ≡ opening
+    go opening p q = refl
+    go closing p q = absurd (let l = some-open in omega arith)
+    go nought p q = absurd (let l = some-open in omega arith)
+    go wrong p q = absurd (let l = some-open in omega arith)
+    go (symbol name) p q = absurd (let l = some-open in omega arith)
+    go (word name) p q = absurd (let l = some-open in omega arith)

@@ -8,11 +8,13 @@ use mathlib.Core.Logic.{_⊎_, inl, inr, _↔_}
 use lib.ListN.{length}
 use Rattle.definitions.specs.Problem.Check.{Refused, refuse}
 use Rattle.definitions.specs.Operations.Answers.{Answer, refused, given}
-use Rattle.definitions.specs.Text.Tokens.{Placed, tokensOf}
+use Rattle.definitions.specs.Text.Tokens.{opening, Placed, tokensOf}
 use Rattle.definitions.specs.Text.Grammar.{Script}
 use Rattle.definitions.specs.Text.Reader.{scriptRead}
-use Rattle.theorems.specs.Texts.{Rises, ReadAs, StopsAt, EndsEarly, DeepAt, Told, read, stops, ends, deep}
+use Rattle.theorems.specs.Texts.{plainTokens, Rises, ReadAs, StopsAt, EndsEarly, DeepAt, Told, read, stops, ends, deep}
+use Rattle.theorems.proofs.Laws.Tests.{clash}
 use Rattle.theorems.proofs.Text.Taken.Lexed.{places-rise}
+use Rattle.theorems.proofs.Text.Taken.Depth.{opens-deep}
 use Rattle.theorems.proofs.Text.Taken.Told.{told}
 use Rattle.theorems.proofs.Text.Taken.Answered.{read-so, stops-so, ends-so, deeps-so}
 
@@ -23,9 +25,6 @@ rises-at low high (p ∷ ps) at after r = rises-at (suc (p .place)) high ps at a
 
 pub place-inside : (text : List ℕ) (before : List Placed) (at : Placed) (after : List Placed) → tokensOf text ≡ before ++ (at ∷ after) → at .place < length text
 place-inside text before at after e = rises-at 0 (length text) before at after (subst (Rises 0 (length text)) e (places-rise text))
-
-clash : {A : Type 0} → _≡_ {A = ℕ} 0 1 → A
-clash z = absurd (omega arith)
 
 -- a refusal tells its number and its place
 refused-same : {A : Type 0} (r q : Refused) → _≡_ {A = Answer A} (refused r) (refused q) → (r .number ≡ q .number) × (r .place ≡ q .place)
@@ -86,3 +85,7 @@ module _ (text : List ℕ) where
   -- 15: exactly at the bracket that opens level 65
   pub fifteen-means : (place : ℕ) → (scriptRead text ≡ refused (refuse 15 place)) ↔ DeepAt text place
   fifteen-means place = (tells-fifteen place (told text), deeps-so text place)
+
+  -- and that token is an opening bracket
+  pub deep-bracket : (place : ℕ) (r : DeepAt text place) → r .at .token ≡ opening
+  deep-bracket place r = opens-deep (plainTokens (r .before)) (r .at .token) (r .shallow) (r .deep)

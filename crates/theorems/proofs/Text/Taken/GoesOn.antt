@@ -1,7 +1,7 @@
 -- Tokens of a text are taken exactly when a text of the subset, depth aside, can go on with them (02, E1). Assumes nothing.
 use mathlib.Core.Path.{_≡_, sym, ap, _∙_, subst}
 use mathlib.Core.Bool.{true}
-use mathlib.Core.List.{List, [], _∷_, _++_}
+use mathlib.Core.List.{List, [], _∷_, _++_, append-assoc}
 use mathlib.Core.Option.{Option, none, some}
 use Rattle.definitions.specs.Lists.{snoc, all}
 use Rattle.definitions.specs.Text.Tokens.{Token}
@@ -13,9 +13,9 @@ use Rattle.theorems.proofs.Laws.All.{all-append}
 use Rattle.theorems.proofs.Text.Taken.Runs.{runs, runs-append, runs-prefix}
 use Rattle.theorems.proofs.Text.Taken.Spelling.{spellable, spell, spells, spell-bytes}
 use Rattle.theorems.proofs.Text.Taken.Lexed.{lexed}
-use Rattle.theorems.proofs.Text.Taken.Sound.{read-subset}
-use Rattle.theorems.proofs.Text.Taken.Able.{finishes}
-use Rattle.theorems.proofs.Text.Taken.Complete.{ending, run-script}
+use Rattle.theorems.proofs.Text.Taken.Kept.Sound.{read-subset}
+use Rattle.theorems.proofs.Text.Taken.Finished.Able.{finishes}
+use Rattle.theorems.proofs.Text.Taken.Written.Scripts.{ending, run-script}
 
 -- tokens that are taken begin a text of the subset: they are read out, and all of it is spelled
 pub taken-goes-on : (ts : List Token) (y : State) → runs start ts ≡ some y → all lexed ts ≡ true → GoesOn ts
@@ -33,6 +33,11 @@ taken-goes-on ts y e l =
           subst Subset (sym same)
           (read-subset (ts ++ rest) (f .1 .last) (runs-append start y ts rest e ∙ f .1 .run) (f .1 .done));
     }
+
+-- where a text goes on, it goes on at every earlier token, so the token at which none does is the first
+pub goes-on-before : (ts us : List Token) → GoesOn (ts ++ us) → GoesOn ts
+goes-on-before ts us g =
+    record { text = g .text; bytes = g .bytes; rest = us ++ g .rest; begins = g .begins ∙ append-assoc ts us (g .rest); whole = g .whole }
 
 -- a text of the subset is read out
 pub whole-taken : (ts : List Token) (s : Subset ts) → runs start ts ≡ some (ending (s .script))

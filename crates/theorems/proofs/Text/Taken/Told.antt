@@ -17,7 +17,7 @@ use Rattle.theorems.specs.Texts.{plainTokens, textTokens, GoesOn, Shallo
 use Rattle.theorems.proofs.Laws.All.{all-left}
 use Rattle.theorems.proofs.Text.Taken.Runs.{runs, runs-step, runs-append}
 use Rattle.theorems.proofs.Text.Taken.Lexed.{lexed, text-lexed}
-use Rattle.theorems.proofs.Text.Taken.Sound.{read-out}
+use Rattle.theorems.proofs.Text.Taken.Kept.Sound.{read-out}
 use Rattle.theorems.proofs.Text.Taken.GoesOn.{taken-goes-on, not-taken, whole-finished}
 use Rattle.theorems.proofs.Text.Taken.Depth.{few-open, many-open, shallow-start, shallow-snoc}
 

@@ -14,9 +14,9 @@ use Rattle.theorems.proofs.Laws.Tests.{and-left, and-right, and-intro}
 use Rattle.theorems.proofs.Laws.All.{all-append, all-left, all-right, all-replicate}
 use Rattle.theorems.proofs.Text.Taken.Spelling.{spellable}
 use Rattle.theorems.proofs.Text.Taken.Lexed.{lexed}
-use Rattle.theorems.proofs.Text.Taken.Constants.{namedInBars}
-use Rattle.theorems.proofs.Text.Taken.Finishing.{CanAt}
-use Rattle.theorems.proofs.Text.Taken.Invariant.{base, openWritten, Inv}
+use Rattle.theorems.proofs.Text.Taken.Finished.Constants.{namedInBars}
+use Rattle.theorems.proofs.Text.Taken.Finished.Finishing.{CanAt}
+use Rattle.theorems.proofs.Text.Taken.Kept.Invariant.{base, openWritten, Inv}
 
 -- a declaration writes its name
 commands-names : (sn : List ℕ) (sig : List Symbol) (cs : List Command) → all spellable (commandsWritten sn sig cs) ≡ true → all namedInBars (symbolsIn cs) ≡ true

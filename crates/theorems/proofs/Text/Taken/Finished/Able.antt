@@ -18,9 +18,9 @@ use Rattle.definitions.specs.Text.Heads.{heads, inhabited, names, bare, bracket
 use Rattle.theorems.proofs.Text.Taken.Runs.{runs, first-passes}
 use Rattle.theorems.proofs.Text.Taken.Spelling.{spellable}
 use Rattle.theorems.proofs.Text.Taken.Lexed.{lexed}
-use Rattle.theorems.proofs.Text.Taken.Sound.{keep-run, start-inv}
-use Rattle.theorems.proofs.Text.Taken.Names.{state-names, state-spelled}
-use Rattle.theorems.proofs.Text.Taken.Finishing.{Finishes, Can, CanAll, CanAt, can-left, fin-at}
+use Rattle.theorems.proofs.Text.Taken.Kept.Sound.{keep-run, start-inv}
+use Rattle.theorems.proofs.Text.Taken.Kept.Names.{state-names, state-spelled}
+use Rattle.theorems.proofs.Text.Taken.Finished.Finishing.{Finishes, Can, CanAll, CanAt, can-left, fin-at}
 
 -- what can be finished stays so
 can-wanted : (sig : List Symbol) (h : Head) → all (inhabited sig) (wantedBy sig h .must) ≡ true → Can sig (wantedBy sig h)

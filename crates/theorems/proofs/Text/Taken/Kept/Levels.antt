@@ -12,7 +12,7 @@ use Rattle.definitions.specs.Text.Tokens.{Token, opening, closing, symbol, word
 use Rattle.definitions.specs.Text.Grammar.{Symbol, Head, declared, ite, equals, negation, conjunction, disjunction, implication, verum, falsum, Terms, end, call, Command, declare, assert, Wanted, symbolsIn, after, headToken, termWritten, termsWritten, sortWritten, commandWritten, commandsWritten}
 use Rattle.definitions.specs.Text.Reader.{Opened, Stage, exact, naming, commanding, declaring, finished, taking, giving, inside, heading, levelOf}
 use Rattle.theorems.specs.Texts.{opensOne, closesOne, opens, closes}
-use Rattle.theorems.proofs.Text.Taken.Invariant.{base, openWritten, Inv, DECLARE, ASSERT}
+use Rattle.theorems.proofs.Text.Taken.Kept.Invariant.{base, openWritten, Inv, DECLARE, ASSERT}
 
 pub opens-append : (ts us : List Token) → opens (ts ++ us) ≡ opens ts + opens us
 opens-append [] us = omega arith

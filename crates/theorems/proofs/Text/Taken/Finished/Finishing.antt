@@ -16,10 +16,10 @@ use Rattle.definitions.specs.Text.Tokens.{Token, opening, closing, nought, symb
 use Rattle.definitions.specs.Text.Grammar.{Symbol, Head, ite, equals, negation, conjunction, disjunction, implication, verum, falsum, Terms, end, assert, symbolsIn, Wanted, wantedBy, left, ready, CORE, BOOL, namesOf, newFunction}
 use Rattle.definitions.specs.Text.Reader.{Opened, Stage, exact, naming, commanding, declaring, finished, taking, giving, inside, heading, State, goes, added, put, gave, step, isFinished}
 use Rattle.definitions.specs.Text.Heads.{declaredFrom, inhabited, names}
-use Rattle.theorems.proofs.Text.Taken.Levels.{owed}
+use Rattle.theorems.proofs.Text.Taken.Kept.Levels.{owed}
 use Rattle.theorems.proofs.Text.Taken.Runs.{same-bytes, token-same, runs, runs-step, first-here}
 use Rattle.theorems.proofs.Text.Taken.Spelling.{spellable}
-use Rattle.theorems.proofs.Text.Taken.Constants.{namedInBars, bare-found}
+use Rattle.theorems.proofs.Text.Taken.Finished.Constants.{namedInBars, bare-found}
 
 -- tokens that lead from a state to the end
 pub record Finishes (st : State) : Type 0 where

@@ -16,9 +16,9 @@ use Rattle.definitions.specs.Text.Tokens.{Token, opening, closing, nought, symb
 use Rattle.definitions.specs.Text.Grammar.{Symbol, Terms, end, Command, declare, assert, Script, symbolsIn, Wanted, termsRight, oneFormula, BOOL, newFunction, newSort, after, commandRight, commandsRight, scriptRight, termsWritten, sortWritten, commandWritten, commandsWritten, written}
 use Rattle.definitions.specs.Text.Reader.{Opened, exact, naming, commanding, declaring, finished, taking, giving, inside, State, start, goes, added, gave, unlessNot, step}
 use Rattle.theorems.proofs.Text.Taken.Runs.{same-bytes, token-same, runs, runs-step, runs-append}
-use Rattle.theorems.proofs.Text.Taken.Invariant.{remaining, symbols-snoc}
-use Rattle.theorems.proofs.Text.Taken.Resolve.{Fresh, fresh-snoc}
-use Rattle.theorems.proofs.Text.Taken.RunTerms.{whole-row, whole-ready, join, join-end, step-assert, run-terms}
+use Rattle.theorems.proofs.Text.Taken.Kept.Invariant.{remaining, symbols-snoc}
+use Rattle.theorems.proofs.Text.Taken.Written.Resolve.{Fresh, fresh-snoc}
+use Rattle.theorems.proofs.Text.Taken.Written.Terms.{whole-row, whole-ready, join, join-end, step-assert, run-terms}
 
 module _ (st : State) (fresh : Fresh (symbolsIn (st .commands))) where
   abbrev sig : List Symbol

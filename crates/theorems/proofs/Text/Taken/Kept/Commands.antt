@@ -17,7 +17,7 @@ use Rattle.definitions.specs.Text.Tokens.{Token, opening, closing, nought, wron
 use Rattle.definitions.specs.Text.Grammar.{Symbol, end, Command, declare, symbolsIn, oneFormula, newFunction, newSort, sortWritten}
 use Rattle.definitions.specs.Text.Reader.{Stage, exact, naming, commanding, declaring, finished, taking, giving, inside, State, goes, unlessNot, symbolName, named, newNamed, gave, stepAt}
 use Rattle.theorems.proofs.Text.Taken.Runs.{same-token}
-use Rattle.theorems.proofs.Text.Taken.Invariant.{right-snoc, base, base-snoc, DECLARE, ASSERT, Inv}
+use Rattle.theorems.proofs.Text.Taken.Kept.Invariant.{right-snoc, base, base-snoc, DECLARE, ASSERT, Inv}
 
 abbrev pub InvS : State → List Token → Type 0
 InvS st ts = Inv (st .sortName) (st .commands) (st .stage) ts

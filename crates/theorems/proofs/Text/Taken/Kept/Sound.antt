@@ -14,8 +14,8 @@ use Rattle.definitions.specs.Text.Grammar.{Symbol, Head, Terms, end, Command, a
 use Rattle.definitions.specs.Text.Reader.{Opened, Stage, exact, naming, commanding, declaring, finished, taking, giving, inside, heading, State, start, goes, added, put, closed, begun, stepAt, step, isFinished, scriptOf}
 use Rattle.definitions.specs.Text.Heads.{heads, inhabited, names, bare, bracketed}
 use Rattle.theorems.proofs.Text.Taken.Runs.{same-token, runs, first-passes}
-use Rattle.theorems.proofs.Text.Taken.Invariant.{remaining, row-whole, written-put, right-snoc, base, base-snoc, openWritten, ASSERT, Inv, stack-put, in-brackets}
-use Rattle.theorems.proofs.Text.Taken.Commands.{InvS, arrive, onto, keep-exact, keep-naming, keep-commanding, keep-declaring, keep-taking, keep-giving}
+use Rattle.theorems.proofs.Text.Taken.Kept.Invariant.{remaining, row-whole, written-put, right-snoc, base, base-snoc, openWritten, ASSERT, Inv, stack-put, in-brackets}
+use Rattle.theorems.proofs.Text.Taken.Kept.Commands.{InvS, arrive, onto, keep-exact, keep-naming, keep-commanding, keep-declaring, keep-taking, keep-giving}
 
 sort-same : (s r : Sort) → sameSort r s ≡ true → sameSort s r ≡ true
 sort-same term term e = refl

@@ -17,9 +17,9 @@ use Rattle.definitions.specs.Text.Grammar.{Symbol, Head, declared, ite, equals,
 use Rattle.definitions.specs.Text.Reader.{Opened, inside, heading, State, goes, added, put, closed, begun, step}
 use Rattle.definitions.specs.Text.Heads.{constant, inhabited, bare}
 use Rattle.theorems.proofs.Text.Taken.Runs.{runs, runs-step, runs-append}
-use Rattle.theorems.proofs.Text.Taken.Invariant.{rowRight, remaining}
+use Rattle.theorems.proofs.Text.Taken.Kept.Invariant.{rowRight, remaining}
 use Rattle.theorems.proofs.Text.Meant.Reading.{parts}
-use Rattle.theorems.proofs.Text.Taken.Resolve.{Fresh, bare-head, bracketed-head}
+use Rattle.theorems.proofs.Text.Taken.Written.Resolve.{Fresh, bare-head, bracketed-head}
 
 -- where a right term stands its sort has terms
 any-at : (sig : List Symbol) (k : ℕ) → k < length sig → constant (symbolAt sig k) ≡ true → any constant sig ≡ true
