@@ -40,7 +40,8 @@ use Rattle.text.specs.Lists.{
   arguments,
   listLaid,
 }
-use Rattle.theorems.proofs.Text.Meant.Shared.{NoTwins, Earlier, ask-twins}
+use Rattle.theorems.specs.Origins.{NoTwins}
+use Rattle.theorems.proofs.Text.Meant.Shared.{Earlier, ask-twins}
 use Rattle.theorems.proofs.Text.Meant.Laying.{Present, AllPresent, Full, lay-twins}
 use Rattle.theorems.proofs.Text.Meant.Again.{lay-extends, again}
 use Rattle.theorems.proofs.Text.Meant.Heights.{lay-many, rightward-height}

@@ -36,7 +36,8 @@ use Rattle.text.specs.Lists.{
   argument,
   arguments,
 }
-use Rattle.theorems.proofs.Text.Meant.Shared.{NoTwins, ask-given, ask-twins}
+use Rattle.theorems.specs.Origins.{NoTwins}
+use Rattle.theorems.proofs.Text.Meant.Shared.{ask-given, ask-twins}
 use Rattle.theorems.proofs.Text.Meant.Laying.{lay-twins}
 use Rattle.theorems.proofs.Text.Meant.Again.{lay-extends}
 
