@@ -3,3 +3,5 @@ pub mod LexLaws
 pub mod Rows
 pub mod TokenLaws
 pub mod Streams
+pub mod NameLaws
+pub mod HeadLaws

@@ -5,7 +5,7 @@ use Prim.Native.Nat.{ℕ, zero, suc, _+_, _-_, _*_, _≤_, _<_}
 use native.Mathlib.Omega.{arith}
 use mathlib.Core.Bool.{Bool, true, false, not, _&&_, _||_}
 use mathlib.Core.List.{List, [], _∷_}
-use mathlib.Core.Option.{Option, none, some}
+use mathlib.Core.Option.{none, some}
 use lib.ListN.{length, getD, take, drop}
 use lib.Seq.{getD-drop, drop-drop}
 use lib.Dec.{leb}
@@ -15,6 +15,7 @@ use Rattle.definitions.specs.Bytes.{byteAt}
 use Rattle.text.specs.Lexing.{between}
 use Rattle.theorems.proofs.Laws.Tests.{and-left, and-right}
 use Rattle.text.specs.Words.{rowsIn, RowsFit}
+use Rattle.text.specs.Named.{isSome}
 
 pub length-rows : (n : ℕ) (table : List ℕ) → length (rowsIn n table) ≡ n
 length-rows zero table = refl
@@ -43,24 +44,20 @@ row-at (suc n) table (suc i) h =
 
 -- the search finds nothing, or some member
 module _ {A : Type 0} (f : A → Bool) where
-  abbrev there : Option ℕ → Bool
-  there none = false
-  there (some k) = true
-
-  found-any : (i : ℕ) (xs : List A) → there (firstFailing (λ x. not (f x)) i xs) ≡ any f xs
+  pub found-any : (i : ℕ) (xs : List A) → isSome (firstFailing (λ x. not (f x)) i xs) ≡ any f xs
   found-any i [] = refl
   found-any i (x ∷ xs) = go (f x) (found-any (suc i) xs)
     where
-      go : (b : Bool) → there (firstFailing (λ x. not (f x)) (suc i) xs) ≡ any f xs
-          → there (elim (not b) [ true ↦ firstFailing (λ x. not (f x)) (suc i) xs | false ↦ some i ]) ≡ (b || any f xs)
+      go : (b : Bool) → isSome (firstFailing (λ x. not (f x)) (suc i) xs) ≡ any f xs
+          → isSome (elim (not b) [ true ↦ firstFailing (λ x. not (f x)) (suc i) xs | false ↦ some i ]) ≡ (b || any f xs)
       go true e = refl
       go false e = e
 
   pub none-any : (xs : List A) → firstFailing (λ x. not (f x)) 0 xs ≡ none → any f xs ≡ false
-  none-any xs e = sym (found-any 0 xs) ∙ ap there e
+  none-any xs e = sym (found-any 0 xs) ∙ ap isSome e
 
   pub some-any : (xs : List A) (k : ℕ) → firstFailing (λ x. not (f x)) 0 xs ≡ some k → any f xs ≡ true
-  some-any xs k e = sym (found-any 0 xs) ∙ ap there e
+  some-any xs k e = sym (found-any 0 xs) ∙ ap isSome e
 
 -- the facts of a table, by tests that compute
 abbrev shortRows : ℕ → List ℕ → Bool

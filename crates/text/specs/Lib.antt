@@ -1,3 +1,4 @@
 pub mod Lexing
 pub mod Words
 pub mod Lists
+pub mod Named
