@@ -55,8 +55,8 @@ module _ (f : Head → Bool) where
   none-declared k (y ∷ ys) p =
       first-skip f (declared (y .result) k) (declaredFrom (suc k) ys) (p (y .result) k) ∙ none-declared (suc k) ys p
 
--- a token that is no symbol names no head
-head-symbol : (sig : List Symbol) (h : Head) → kindOf (headToken sig h) ≡ 4
+-- a head is written by a symbol, so a token that is no symbol names none
+pub head-symbol : (sig : List Symbol) (h : Head) → kindOf (headToken sig h) ≡ 4
 head-symbol sig (declared s k) = refl
 head-symbol sig (ite s) = refl
 head-symbol sig equals = refl

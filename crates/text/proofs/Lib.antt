@@ -5,3 +5,4 @@ pub mod TokenLaws
 pub mod Streams
 pub mod NameLaws
 pub mod HeadLaws
+pub mod DeclaredLaws
