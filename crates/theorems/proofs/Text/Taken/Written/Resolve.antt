@@ -65,7 +65,7 @@ fresh-snoc sig y fresh new k h = go (ltb k (length sig)) refl
 not-taken : (taken : List (List ℕ)) (name : List ℕ) → newName taken name ≡ true → any (sameBytes name) taken ≡ false
 not-taken taken name e = not-true (any (sameBytes name) taken) (and-left (not (any (sameBytes name) taken)) (not (solversOwn name)) e)
 
-name-among : (sig : List Symbol) (name : List ℕ) (j : ℕ) → j < length sig → any (sameBytes name) (namesOf sig) ≡ false → sameBytes name (symbolAt sig j .name) ≡ false
+pub name-among : (sig : List Symbol) (name : List ℕ) (j : ℕ) → j < length sig → any (sameBytes name) (namesOf sig) ≡ false → sameBytes name (symbolAt sig j .name) ≡ false
 name-among [] name j h e = absurd (omega arith)
 name-among (y ∷ ys) name zero h e = or-false-left (sameBytes name (y .name)) (any (sameBytes name) (namesOf ys)) e
 name-among (y ∷ ys) name (suc j) h e = name-among ys name j (omega arith) (or-false-right (sameBytes name (y .name)) (any (sameBytes name) (namesOf ys)) e)
@@ -75,14 +75,14 @@ take-at sig k j h l = getD-take k sig j noSymbol h
 
 module _ (sig : List Symbol) (fresh : Fresh sig) where
   -- a later name differs from an earlier one, and from the Core names
-  later-differs : (j k : ℕ) → j < k → k < length sig → sameBytes (symbolAt sig k .name) (symbolAt sig j .name) ≡ false
+  pub later-differs : (j k : ℕ) → j < k → k < length sig → sameBytes (symbolAt sig k .name) (symbolAt sig j .name) ≡ false
   later-differs j k h l =
       let name = symbolAt sig k .name in
       let free = not-taken (CORE ++ namesOf (take k sig)) name (fresh k l) in
       let e = name-among (take k sig) name j (rw (length-take-le k sig (omega arith)) h) (any-append-right (sameBytes name) CORE (namesOf (take k sig)) free) in
       ap (λ (y : Symbol). sameBytes name (y .name)) (sym (take-at sig k j h (omega arith))) ∙ e
 
-  core-differs : (k : ℕ) → k < length sig → any (sameBytes (symbolAt sig k .name)) CORE ≡ false
+  pub core-differs : (k : ℕ) → k < length sig → any (sameBytes (symbolAt sig k .name)) CORE ≡ false
   core-differs k l =
       let name = symbolAt sig k .name in
       any-append-left (sameBytes name) CORE (namesOf (take k sig)) (not-taken (CORE ++ namesOf (take k sig)) name (fresh k l))
