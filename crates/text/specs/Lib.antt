@@ -5,3 +5,5 @@ pub mod Lists
 pub mod Named
 pub mod Reading
 pub mod Words
+pub mod Rowing
+pub mod Symbols

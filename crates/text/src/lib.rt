@@ -1,6 +1,9 @@
 // Jobs in solver text: a text of the subset of SMT-LIB 2.6 that docs/TEXT.md describes becomes a problem.
 pub mod bytes;
+pub mod declared;
 pub mod exact;
+pub mod heads;
+pub mod lists;
 pub mod nodes;
 pub mod tokens;
 pub mod words;

@@ -1,0 +1,54 @@
+-- The row of a list as the code keeps it, and what it is to lay one more argument or the list's end. Assumes nothing.
+use mathlib.Core.Path.{_≡_}
+use Prim.Native.Nat.{ℕ, zero, suc, min, _≤_, _<_}
+use mathlib.Core.Bool.{true, false}
+use mathlib.Core.List.{List, [], _∷_}
+use mathlib.Core.Logic.{_⊎_}
+use lib.ListN.{length, getD}
+use Rattle.definitions.specs.Problem.Node as table
+use Rattle.text.specs.Laying.{tableIn}
+use Rattle.text.specs.Lists.{Kept, kept}
+use Rattle.text.specs.Lists as lists
+use Rattle.text.specs.declared.lists.Row.{Row}
+use Rattle.text.specs.declared.lists.Listed.{Listed}
+use Rattle.text.specs.declared.nodes.Laying.{Laying}
+
+-- the negations that wait, the latest first
+abbrev pub waitingIn : List ℕ → ℕ → List ℕ
+waitingIn pending zero = []
+waitingIn pending (suc n) = getD pending n 0 ∷ waitingIn pending n
+
+-- the code's row stands for this one
+pub record RowIs (k : lists.Row) (row : Row) (pending : List ℕ) : Type 0 where
+  pub seen-is : row .seen ≡ min (k .seen) 3
+  pub first-is : row .first ≡ k .first
+  pub second-is : row .second ≡ k .second
+  pub third-is : row .third ≡ k .third
+  pub last-is : row .last ≡ k .last
+  pub joined-is : row .joined ≡ k .joined
+  pub pending-is : waitingIn pending (row .waiting) ≡ k .pending
+
+-- whatever is read, its numbers are those of nodes, and the negations that wait fit
+pub record RowSmall (row : Row) : Type 0 where
+  pub seen-small : row .seen ≤ 3
+  pub first-small : row .first < 256
+  pub second-small : row .second < 256
+  pub third-small : row .third < 256
+  pub last-small : row .last < 256
+  pub joined-small : row .joined < 256
+  pub waiting-small : row .waiting ≤ 256
+
+-- a table or a list of negations that a problem has no room for
+abbrev pub TooLong : Kept → Type 0
+TooLong k = (256 < length (k .table)) ⊎ (256 < length (k .row .pending))
+
+-- what is done to a row and to the table: f, where there is room for it; else it is told that there is none
+pub record Rows (f : lists.Row → List table.Node → Kept) (row : Row) (pending nodes : List ℕ) (l : Laying) (r : Listed) (pending′ nodes′ : List ℕ) : Type 0 where
+  pub few : r .laying .count ≤ 256
+  pub small : RowSmall (r .row)
+  pub stays : l .over ≡ true → r .laying .over ≡ true
+  pub row-done : (k : lists.Row) → RowIs k row pending → l .over ≡ false → r .laying .over ≡ false
+      → RowIs (f k (tableIn nodes (l .count)) .row) (r .row) pending′
+  pub table-done : (k : lists.Row) → RowIs k row pending → l .over ≡ false → r .laying .over ≡ false
+      → f k (tableIn nodes (l .count)) .table ≡ tableIn nodes′ (r .laying .count)
+  pub more : (k : lists.Row) → RowIs k row pending → l .over ≡ false → r .laying .over ≡ true → TooLong (f k (tableIn nodes (l .count)))

@@ -1,0 +1,114 @@
+-- The declared symbols as the code keeps them, and the heads that it finds (02, E1). Assumes nothing.
+use mathlib.Core.Path.{_≡_}
+use Prim.Native.Nat.{ℕ, _+_, _*_, _≤_, _<_}
+use mathlib.Core.Bool.{Bool, true, false}
+use mathlib.Core.List.{List}
+use mathlib.Core.Option.{Option, none, some}
+use lib.ListN.{length, getD}
+use Rattle.definitions.specs.Problem.Ops.{Sort, term, formula}
+use Rattle.definitions.specs.Text.Tokens.{opening}
+use Rattle.definitions.specs.Text.Grammar.{
+  Symbol,
+  symbolAt,
+  symbolsIn,
+  Command,
+  declared,
+  ite,
+  equals,
+  negation,
+  conjunction,
+  disjunction,
+  implication,
+  verum,
+  falsum,
+}
+use Rattle.definitions.specs.Text.Grammar as grammar
+use Rattle.definitions.specs.Text.Heads.{inhabited}
+use Rattle.definitions.specs.Text.Reader.{State, exact, commanding}
+use Rattle.definitions.specs.Text.Nodes.{byteOf}
+use Rattle.text.specs.Lexing.{between, nameOf, NameWithin}
+use Rattle.text.specs.Reading.{Reached}
+use Rattle.text.specs.Named.{resolve}
+use Rattle.text.specs.declared.declared.Declared.{Declared}
+use Rattle.text.specs.declared.declared.Known.{Known}
+use Rattle.text.specs.declared.heads.Head.{Head}
+
+abbrev pub sortIs : Bool → Sort
+sortIs true = formula
+sortIs false = term
+
+-- the byte of a symbol in the problem
+abbrev pub symbolByte : Symbol → ℕ
+symbolByte y = byteOf (y .arity) (y .result)
+
+-- what a shelf says of symbol i: where its name begins and ends, and its byte
+abbrev pub fromOn : List ℕ → ℕ → ℕ
+fromOn shelf i = getD shelf (3 * i) 0
+
+abbrev pub toOn : List ℕ → ℕ → ℕ
+toOn shelf i = getD shelf (3 * i + 1) 0
+
+abbrev pub byteOn : List ℕ → ℕ → ℕ
+byteOn shelf i = getD shelf (3 * i + 2) 0
+
+-- a place on the shelf is in use
+abbrev pub OnShelf : List ℕ → ℕ → ℕ → Type 0
+OnShelf shelf count i = (i < count) × (3 * i + 3 ≤ length shelf)
+
+-- names on the shelf lie within the text, and bytes are small
+pub record ShelfSound (text shelf : List ℕ) (count : ℕ) : Type 0 where
+  pub onward : (i : ℕ) → OnShelf shelf count i → fromOn shelf i ≤ toOn shelf i
+  pub inside : (i : ℕ) → OnShelf shelf count i → toOn shelf i ≤ length text
+  pub small : (i : ℕ) → OnShelf shelf count i → byteOn shelf i < 20
+
+-- the shelf has the first of these symbols
+pub record Shelved (text : List ℕ) (sig : List Symbol) (shelf : List ℕ) (d : Declared) : Type 0 where
+  pub counted : d .count ≡ length sig
+  pub named : (i : ℕ) → OnShelf shelf (d .count) i → between text (fromOn shelf i) (toOn shelf i) ≡ symbolAt sig i .name
+  pub typed : (i : ℕ) → OnShelf shelf (d .count) i → byteOn shelf i ≡ symbolByte (symbolAt sig i)
+  pub inhabits : d .inhabited ≡ inhabited sig term
+
+-- the commands cs are read, and the next one begins at an offset
+abbrev pub atCommand : List ℕ → List Command → State
+atCommand sn cs = record { sortName = sn; commands = cs; stage = exact opening commanding }
+
+-- the symbols of a text that is read so far
+pub record Symbols (text : List ℕ) (sn : List ℕ) (cs : List Command) (shelf : List ℕ) (d : Declared) : Type 0 where
+  pub sort-is : sn ≡ nameOf text (d .sort)
+  pub shelved : Shelved text (symbolsIn cs) shelf d
+  pub reached : Reached text (atCommand sn cs) (d .command)
+
+-- what holds whatever is read: offsets lie within the text
+pub record DeclaredSound (text shelf : List ℕ) (d : Declared) : Type 0 where
+  pub sound : ShelfSound text shelf (d .count)
+  pub command-inside : d .command ≤ length text
+  pub sort-inside : NameWithin text (d .sort)
+
+-- the symbol of a name
+abbrev pub KnownIs : List Symbol → List ℕ → Known → Type 0
+KnownIs sig name (Known.Symbol number byte) = (resolve sig name ≡ some number) × (byte ≡ symbolByte (symbolAt sig number))
+KnownIs sig name Known.Nothing = resolve sig name ≡ none
+
+-- the head that a head of the code stands for
+abbrev pub headRead : Head → grammar.Head
+headRead (Head.Applied number f arity) = declared (sortIs f) number
+headRead (Head.Choice f) = ite (sortIs f)
+headRead Head.Equals = equals
+headRead Head.Not = negation
+headRead Head.And = conjunction
+headRead Head.Or = disjunction
+headRead Head.Implies = implication
+headRead Head.True = verum
+headRead Head.False = falsum
+
+-- with the arity that is declared
+abbrev pub ArityIs : List Symbol → Head → Type 0
+ArityIs sig (Head.Applied number f arity) = (arity ≡ symbolAt sig number .arity) × (arity ≤ 3)
+ArityIs sig (Head.Choice f) = Unit {0}
+ArityIs sig Head.Equals = Unit {0}
+ArityIs sig Head.Not = Unit {0}
+ArityIs sig Head.And = Unit {0}
+ArityIs sig Head.Or = Unit {0}
+ArityIs sig Head.Implies = Unit {0}
+ArityIs sig Head.True = Unit {0}
+ArityIs sig Head.False = Unit {0}
