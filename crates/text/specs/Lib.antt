@@ -7,3 +7,4 @@ pub mod Reading
 pub mod Words
 pub mod Rowing
 pub mod Symbols
+pub mod Commands

@@ -5,5 +5,6 @@ pub mod exact;
 pub mod heads;
 pub mod lists;
 pub mod nodes;
+pub mod prologue;
 pub mod tokens;
 pub mod words;
