@@ -11,3 +11,4 @@ pub mod ReachLaws
 pub mod Rows
 pub mod Streams
 pub mod TokenLaws
+pub mod TermSteps

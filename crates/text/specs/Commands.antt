@@ -1,10 +1,9 @@
 -- How far the commands of a text are read (02, E1). Assumes nothing.
-use mathlib.Core.Path.{_≡_}
 use Prim.Native.Nat.{ℕ, _≤_}
 use mathlib.Core.List.{List, [], _∷_}
 use lib.ListN.{length}
 use Rattle.definitions.specs.Text.Tokens.{opening, closing, nought}
-use Rattle.definitions.specs.Text.Reader.{State, start, goes, naming, each, commanding}
+use Rattle.definitions.specs.Text.Reader.{each, commanding}
 use Rattle.text.specs.Lexing.{nameOf, NameWithin}
 use Rattle.text.specs.Reading.{Reached, WrongAt}
 use Rattle.text.specs.Symbols.{atCommand}

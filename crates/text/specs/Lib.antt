@@ -8,3 +8,4 @@ pub mod Words
 pub mod Rowing
 pub mod Symbols
 pub mod Commands
+pub mod Terms

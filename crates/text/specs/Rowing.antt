@@ -7,7 +7,7 @@ use mathlib.Core.Logic.{_⊎_}
 use lib.ListN.{length, getD}
 use Rattle.definitions.specs.Problem.Node as table
 use Rattle.text.specs.Laying.{tableIn}
-use Rattle.text.specs.Lists.{Kept, kept}
+use Rattle.text.specs.Lists.{Kept}
 use Rattle.text.specs.Lists as lists
 use Rattle.text.specs.declared.lists.Row.{Row}
 use Rattle.text.specs.declared.lists.Listed.{Listed}

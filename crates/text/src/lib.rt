@@ -6,5 +6,6 @@ pub mod heads;
 pub mod lists;
 pub mod nodes;
 pub mod prologue;
+pub mod terms;
 pub mod tokens;
 pub mod words;

@@ -1,0 +1,77 @@
+-- What reading one term does: to the state of the definition's pass, and to the table of nodes (02, E1). Assumes nothing.
+use mathlib.Core.Path.{_≡_}
+use Prim.Native.Nat.{ℕ, _+_, _≤_, _<_}
+use mathlib.Core.Bool.{Bool, true, false}
+use mathlib.Core.List.{List}
+use mathlib.Core.Option.{some}
+use lib.ListN.{length}
+use Rattle.definitions.specs.Problem.Node as table
+use Rattle.definitions.specs.Text.Tokens.{closing}
+use Rattle.definitions.specs.Text.Grammar.{Symbol, Terms, Command, symbolsIn, Wanted, wantedBy, sortOfHead, next, left, headRight, termsRight}
+use Rattle.definitions.specs.Text.Grammar as grammar
+use Rattle.definitions.specs.Text.Reader.{Opened, State, inside, put, scriptRead}
+use Rattle.definitions.specs.Text.Nodes.{symbolBytes, headTree, treesOf, lay}
+use Rattle.definitions.specs.Operations.Answers.{refused}
+use Rattle.definitions.specs.Operations.Readings.{refusalRead}
+use Rattle.definitions.specs.declared.Refusal.{Refusal}
+use Rattle.theorems.specs.Origins.{NoTwins}
+use Rattle.theorems.proofs.Text.Meant.Shared.{Earlier}
+use Rattle.text.specs.Lexing.{lexemeRead, Lexed}
+use Rattle.text.specs.Reading.{Reached, isToken}
+use Rattle.text.specs.Symbols.{sortIs, Symbols}
+use Rattle.text.specs.Laying.{tableIn, Performs}
+use Rattle.text.specs.declared.tokens.Token.{Token}
+use Rattle.text.specs.declared.declared.Declared.{Declared}
+use Rattle.text.specs.declared.nodes.Laying.{Laying}
+use Rattle.text.specs.declared.nodes.Asked.{Asked}
+use Rattle.text.specs.declared.terms.Term.{Term}
+
+-- in a list that is wanted and read so far, inside open brackets
+abbrev pub inList : List ℕ → List Command → Wanted → Terms → List Opened → State
+inList sn cs w row outer = record { sortName = sn; commands = cs; stage = inside w row outer }
+
+-- the table, where it has room: no two nodes are equal, operands come earlier, and the symbols are few enough to be named in a byte
+pub record TableGood (sig : List Symbol) (nodes : List ℕ) (l : Laying) : Type 0 where
+  pub twins : l .over ≡ false → NoTwins (tableIn nodes (l .count))
+  pub earlier : l .over ≡ false → Earlier (symbolBytes sig) (tableIn nodes (l .count))
+  pub symbols-few : l .over ≡ false → length sig ≤ 32
+
+-- a term of a sort is wanted where a token stands that closes nothing
+pub record TermWanted (text sn : List ℕ) (cs : List Command) (shelf : List ℕ) (d : Declared) (w : Wanted) (row : Terms) (outer : List Opened) (at : ℕ)
+    (t : Token) (formula : Bool) (levels : ℕ) (nodes : List ℕ) (l : Laying) : Type 0 where
+  pub symbols : Symbols text sn cs shelf d
+  pub reached : Reached text (inList sn cs w row outer) at
+  pub lexed : Lexed text at t
+  pub unclosed : isToken closing (lexemeRead text (t .lexeme)) ≡ false
+  pub wanted : next w ≡ some (sortIs formula)
+  pub level : length outer + levels ≡ 64
+  pub good : TableGood (symbolsIn cs) nodes l
+
+-- a right term of the sort stands there, and is laid
+pub record TermRead (text sn : List ℕ) (cs : List Command) (w : Wanted) (row : Terms) (outer : List Opened) (formula : Bool) (nodes : List ℕ) (l : Laying)
+    (at : ℕ) (r : Asked) (nodes′ : List ℕ) : Type 0 where
+  pub head : grammar.Head
+  pub args : Terms
+  pub reached : Reached text (inList sn cs (left w) (put row head args) outer) at
+  pub head-right : headRight (symbolsIn cs) head ≡ true
+  pub sort-is : sortOfHead head ≡ sortIs formula
+  pub args-right : termsRight (symbolsIn cs) (wantedBy (symbolsIn cs) head) args ≡ true
+  pub performs : Performs (lay (headTree head (treesOf args))) nodes l r nodes′
+
+-- the text is refused so
+abbrev pub RefusedBy : List ℕ → Refusal → Type 0
+RefusedBy text refusal = scriptRead text ≡ refused (refusalRead refusal)
+
+abbrev pub TermSays : (text sn : List ℕ) → List Command → Wanted → Terms → List Opened → Bool → List ℕ → Laying → Term → List ℕ → Type 0
+TermSays text sn cs w row outer formula nodes l (Term.Read at r) nodes′ = TermRead text sn cs w row outer formula nodes l at r nodes′
+TermSays text sn cs w row outer formula nodes l (Term.Refused refusal) nodes′ = RefusedBy text refusal
+
+-- whatever is read: the offset behind the term, and the laying, are sound
+abbrev pub TermSound : List ℕ → ℕ → Term → Type 0
+TermSound text from (Term.Read at r) = (from ≤ at) × (at ≤ length text) × (r .number < 256) × (r .laying .count ≤ 256)
+TermSound text from (Term.Refused refusal) = Unit {0}
+
+pub record ReadsTerm (text shelf : List ℕ) (d : Declared) (t : Token) (formula : Bool) (levels : ℕ) (nodes : List ℕ) (l : Laying) (r : Term) (nodes′ : List ℕ) : Type 0 where
+  pub sound : TermSound text (t .next) r
+  pub says : (sn : List ℕ) (cs : List Command) (w : Wanted) (row : Terms) (outer : List Opened) (at : ℕ)
+      → TermWanted text sn cs shelf d w row outer at t formula levels nodes l → TermSays text sn cs w row outer formula nodes l r nodes′
