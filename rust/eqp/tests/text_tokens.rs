@@ -9,9 +9,8 @@ use compared::readers::{
 };
 
 /// The reserved words and the command names of SMT-LIB 2.6.
-const RESERVED: &str =
-    "! _ as BINARY DECIMAL exists HEXADECIMAL forall let match NUMERAL par STRING \
-    assert check-sat check-sat-assuming declare-const declare-datatype declare-datatypes \
+const RESERVED: &str = "! _ as BINARY DECIMAL exists HEXADECIMAL forall let match NUMERAL par \
+    STRING assert check-sat check-sat-assuming declare-const declare-datatype declare-datatypes \
     declare-fun declare-sort define-fun define-fun-rec define-funs-rec define-sort echo exit \
     get-assertions get-assignment get-info get-model get-option get-proof get-unsat-assumptions \
     get-unsat-core get-value pop push reset reset-assertions set-info set-logic set-option";

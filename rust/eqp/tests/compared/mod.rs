@@ -8,3 +8,4 @@ pub mod lend;
 pub mod notice;
 pub mod readers;
 pub mod replay;
+pub mod solver;

@@ -2,14 +2,6 @@
 
 use crate::reference::Refusal;
 
-/// Words that are no symbols unless bars stand around them: the reserved words and the names of
-/// the commands.
-const RESERVED: &str = "! _ as BINARY DECIMAL exists HEXADECIMAL forall let match NUMERAL par \
-    STRING assert check-sat check-sat-assuming declare-const declare-datatype declare-datatypes \
-    declare-fun declare-sort define-fun define-fun-rec define-funs-rec define-sort echo exit \
-    get-assertions get-assignment get-info get-model get-option get-proof get-unsat-assumptions \
-    get-unsat-core get-value pop push reset reset-assertions set-info set-logic set-option";
-
 /// What a text is made of; white space and comments stand between the tokens.
 #[derive(Clone, Copy, Debug, PartialEq, Eq)]
 pub enum Token<'a> {
@@ -120,7 +112,24 @@ fn barred(rest: &[u8]) -> Option<&[u8]> {
 fn classify(word: &[u8]) -> Option<Token<'_>> {
     match word.first()? {
         b'0'..=b'9' => (word == b"0").then_some(Token::Zero),
-        _ if RESERVED.split(' ').any(|name| name.as_bytes() == word) => Some(Token::Reserved(word)),
+        _ if is_reserved(word) => Some(Token::Reserved(word)),
         _ => Some(Token::Symbol(word)),
     }
+}
+
+/// Whether a word is no symbol unless bars stand around it: a reserved word or a command's name.
+#[rustfmt::skip] // Many words on a line.
+fn is_reserved(word: &[u8]) -> bool {
+    matches!(
+        word,
+        b"!" | b"_" | b"as" | b"BINARY" | b"DECIMAL" | b"exists" | b"HEXADECIMAL" | b"forall" |
+        b"let" | b"match" | b"NUMERAL" | b"par" | b"STRING" |
+        b"assert" | b"check-sat" | b"check-sat-assuming" | b"declare-const" |
+        b"declare-datatype" | b"declare-datatypes" | b"declare-fun" | b"declare-sort" |
+        b"define-fun" | b"define-fun-rec" | b"define-funs-rec" | b"define-sort" | b"echo" |
+        b"exit" | b"get-assertions" | b"get-assignment" | b"get-info" | b"get-model" |
+        b"get-option" | b"get-proof" | b"get-unsat-assumptions" | b"get-unsat-core" |
+        b"get-value" | b"pop" | b"push" | b"reset" | b"reset-assertions" | b"set-info" |
+        b"set-logic" | b"set-option"
+    )
 }
