@@ -4,7 +4,8 @@
 //! [`host::decide`] hands it to the proved checker (`libhost.a`, made by `rt staticlib host`),
 //! which answers valid, falsified with tables that make the formula false, stopped where the
 //! budget ends first, or refused. [`reference::decide`] is a second implementation, written from
-//! document 01 alone; the tests compare the two on many generated problems.
+//! document 01 alone; the tests compare the two on many generated problems. [`reference::read`]
+//! makes a problem of solver text, SMT-LIB 2.6 (document 02, E1).
 //!
 //! ```
 //! use eqp::problem::Problem;
@@ -25,7 +26,8 @@
 //! - `cargo test --profile checked` runs the worked rows, the comparison, the night run and, where
 //!   z3 or cvc5 is on the PATH, the solvers;
 //! - `cargo run --release --bin bench` times both implementations;
-//! - `cargo run --release --bin make_examples` writes the files of `examples/` anew.
+//! - `cargo run --release --bin make_examples` writes the files of `examples/` anew;
+//! - `cargo run --release --bin pack OUT.jobs FILE.smt2 ..` makes a job file of solver texts.
 
 #![deny(unsafe_code)]
 #![warn(missing_docs)]
@@ -46,6 +48,10 @@ pub const WITNESS_LEN: usize = 206;
 
 /// The least length of an answer buffer that the raw call takes.
 pub const ANSWER_LEN: usize = 32;
+
+/// The least length of a problem buffer that a text is read into: a header of 8 bytes, 32 symbols
+/// and 256 nodes of 8.
+pub const PROBLEM_LEN: usize = 2_088;
 
 /// What a decision answers.
 #[derive(Clone, Copy, Debug, PartialEq, Eq)]
@@ -79,6 +85,23 @@ pub enum Answer {
         tried: u64,
         /// The number of places.
         product: u64,
+    },
+}
+
+/// What reading a text answers.
+#[derive(Clone, Copy, Debug, PartialEq, Eq)]
+pub enum Reading {
+    /// The buffer is too short, the text is not of the subset, or its problem breaks a limit.
+    Refused {
+        /// The refusal number: 4, 9, 10, 14, 15 or 23.
+        number: u8,
+        /// The byte of the text where refusals 14 and 15 stand, else 0.
+        place: u64,
+    },
+    /// The problem stands at the start of its buffer.
+    Read {
+        /// How many bytes it has.
+        length: usize,
     },
 }
 

@@ -1,6 +1,8 @@
 //! The problems that the bench walks. All are valid, so that a walk ends at the budget or at the
 //! last place and at nothing before.
 
+pub mod texts;
+
 use crate::problem::{Formula, Problem, Term};
 use crate::samples::{ackermann, inlined_tap, row, variables};
 

@@ -5,17 +5,12 @@ mod compared;
 mod counted;
 mod made;
 
-use std::env;
-use std::io::{self, Write};
-use std::process::{Command, Stdio};
-use std::thread;
-
-use compared::both::{call, BOTH};
 use compared::notice::notice;
+use compared::solver::{is_on_path, run, verdict};
 use counted::facts::Facts;
 use counted::tally::{Row, Tally};
 use eqp::samples::{ackermann, inlined_tap, late_tap, row};
-use eqp::{smt, Answer};
+use eqp::smt;
 use made::generate::{self, Shape};
 use made::rng::Rng;
 
@@ -23,17 +18,6 @@ use made::rng::Rng;
 const PROBLEMS: usize = 600;
 /// No walk is longer than this.
 const MOST_PLACES: u128 = 50_000;
-
-/// What a solver must say, as both the library and the reference decide.
-fn verdict(problem: &[u8]) -> &'static str {
-    let [library, reference] = BOTH.map(|(_, decide)| call(decide, u64::MAX, problem).answer);
-    assert_eq!(library, reference);
-    match library {
-        Answer::Valid { .. } => "unsat",
-        Answer::Falsified { .. } => "sat",
-        other => panic!("{other:?} for {problem:?}"),
-    }
-}
 
 /// Document 01's rows, document 004's example, the feedback patches, and generated problems whose
 /// walks are short.
@@ -62,39 +46,13 @@ type Said = (Facts, &'static str);
 
 #[rustfmt::skip] // One row on a line.
 const SAID: &[Row<Said>] = &[
-    ("unsat, with functions", |(f, said)| *said == "unsat" && has_arguments(f, 0), 90),
-    ("unsat, with predicates", |(f, said)| *said == "unsat" && has_arguments(f, 1), 70),
-    ("sat, with functions", |(f, said)| *said == "sat" && has_arguments(f, 0), 80),
-    ("sat, with predicates", |(f, said)| *said == "sat" && has_arguments(f, 1), 80),
+    ("unsat, with functions", |(f, said)| *said == "unsat" && f.has_arguments(0), 90),
+    ("unsat, with predicates", |(f, said)| *said == "unsat" && f.has_arguments(1), 70),
+    ("sat, with functions", |(f, said)| *said == "sat" && f.has_arguments(0), 80),
+    ("sat, with predicates", |(f, said)| *said == "sat" && f.has_arguments(1), 80),
     ("unsat, with choices", |(f, said)| *said == "unsat" && f.ops[1] && f.ops[9], 60),
     ("sat, with choices", |(f, said)| *said == "sat" && f.ops[1] && f.ops[9], 50),
 ];
-
-/// Whether there are applications of arity 1 or more, of functions or of predicates.
-fn has_arguments(facts: &Facts, kind: usize) -> bool {
-    facts.arities[kind][1..].contains(&true)
-}
-
-/// Whether a directory of the PATH has this program.
-fn is_on_path(program: &str) -> bool {
-    let path = env::var_os("PATH").unwrap_or_default();
-    env::split_paths(&path).any(|directory| directory.join(program).is_file())
-}
-
-/// What a solver prints for a script.
-fn run(solver: &str, arguments: &[&str], script: &str) -> io::Result<String> {
-    let mut child = Command::new(solver)
-        .args(arguments)
-        .stdin(Stdio::piped())
-        .stdout(Stdio::piped())
-        .spawn()?;
-    let mut stdin = child.stdin.take().expect("its input is a pipe");
-    let output = thread::scope(|scope| {
-        scope.spawn(move || stdin.write_all(script.as_bytes()));
-        child.wait_with_output()
-    })?;
-    Ok(String::from_utf8_lossy(&output.stdout).into_owned())
-}
 
 /// Holds all verdicts against a solver's; says a word where it is not on the PATH.
 fn expect_agreement(solver: &str, arguments: &[&str]) {
@@ -106,7 +64,7 @@ fn expect_agreement(solver: &str, arguments: &[&str]) {
     for problem in &problems {
         script += &smt::job(problem).expect("an accepted problem");
     }
-    let printed = run(solver, arguments, &script).expect("the solver runs");
+    let printed = run(solver, arguments, script.as_bytes()).expect("the solver runs");
     expect_said(solver, &problems, &printed);
 }
 

@@ -2,19 +2,22 @@
 //!
 //! The modules follow its sections: `check` the problem bytes and the refusals, `eliminate` the
 //! function-free table, `ranges` the components and the product, `walk` the places in order,
-//! `witness` the rows of a falsified answer, and `night` the night run.
+//! `witness` the rows of a falsified answer, and `night` the night run. `text` is document 02's
+//! jobs in solver text.
 
 mod check;
 mod eliminate;
 mod night;
 mod node;
 mod ranges;
+mod text;
 mod walk;
 mod witness;
 
 pub use check::{check, Checked};
 pub use night::night;
 pub use node::{Node, Op, Sort};
+pub use text::read;
 
 use crate::{Answer, WITNESS_LEN, WORK_LEN};
 use eliminate::eliminate;
@@ -27,9 +30,10 @@ const MOST_PLACES: u128 = 1_000_000_000_000_000_000;
 /// Why a call is refused.
 #[derive(Clone, Copy, Debug, PartialEq, Eq)]
 pub struct Refusal {
-    /// The refusal number, 1 to 13.
+    /// The refusal number.
     pub number: u8,
-    /// The first wrong symbol or node for refusals 6 and 7, else 0.
+    /// The first wrong symbol or node for refusals 6 and 7, a byte of the text for 14 and 15,
+    /// else 0.
     pub place: u64,
 }
 
@@ -39,7 +43,7 @@ impl Refusal {
         Self { number, place: 0 }
     }
 
-    /// A refusal of the symbol or node with this number.
+    /// A refusal of the symbol, node or byte with this number.
     const fn at(number: u8, place: usize) -> Self {
         Self {
             number,

@@ -2,7 +2,7 @@
 
 /// What a node is, numbered as in document 01.
 #[repr(u8)]
-#[derive(Clone, Copy, Debug, PartialEq, Eq)]
+#[derive(Clone, Copy, Debug, PartialEq, Eq, Hash)]
 pub enum Op {
     /// A function application; in a function-free table, a variable.
     Apply = 0,

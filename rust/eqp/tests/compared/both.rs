@@ -56,7 +56,8 @@ pub fn expect_witness(problem: &Problem, wanted: &[u8], words: &str) {
     }
 }
 
-fn expect_start(buffer: &[u8], wanted: &[u8], name: &str) {
+/// A buffer must begin with these bytes, and past them nothing changed.
+pub fn expect_start(buffer: &[u8], wanted: &[u8], name: &str) {
     let (written, rest) = buffer.split_at(wanted.len());
     assert_eq!(written, wanted, "{name}");
     assert!(rest.iter().all(|&byte| byte == FILL), "{name}");

@@ -6,4 +6,6 @@ pub mod both;
 pub mod effects;
 pub mod lend;
 pub mod notice;
+pub mod readers;
 pub mod replay;
+pub mod solver;

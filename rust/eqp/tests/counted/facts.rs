@@ -91,6 +91,11 @@ impl Facts {
         self.distinct[kind] = distinct.len();
     }
 
+    /// Whether there are applications of arity 1 or more, of functions or of predicates.
+    pub fn has_arguments(&self, kind: usize) -> bool {
+        self.arities[kind][1..].contains(&true)
+    }
+
     /// No walk has more places than this: those of a single component of all variables.
     pub fn most_places(&self) -> u128 {
         let [functions, predicates] = self.distinct;

@@ -8,3 +8,4 @@ pub mod generate;
 pub mod limits;
 pub mod refuse;
 pub mod rng;
+pub mod text;

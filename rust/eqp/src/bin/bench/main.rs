@@ -2,19 +2,17 @@
 //!
 //! Ratios are the reference's time over the library's: above 1 the library is the faster one.
 
-use std::io::{self, Write};
-use std::process::{Command, Stdio};
-use std::thread;
+mod texts;
+mod timing;
+
+use std::io;
 use std::time::{Duration, Instant};
 
 use eqp::reference::check;
 use eqp::workloads::{self, Workload};
 use eqp::{host, reference, smt, Answer, WITNESS_LEN, WORK_LEN};
+use timing::{medians, repeats, run_z3, without_z3};
 
-/// How often each side is timed; the median counts.
-const ROUNDS: usize = 15;
-/// How long one timing takes at least.
-const TIMING: Duration = Duration::from_millis(12);
 /// How many small jobs there are.
 const JOBS: usize = 100_000;
 
@@ -78,6 +76,7 @@ fn main() {
     let mut reference = Side::new(reference::decide);
     let ratios = bench_tables(&mut library, &mut reference);
     bench_jobs(&mut library, &mut reference);
+    texts::bench();
     let mean = ratios.iter().map(|ratio| ratio.ln()).sum::<f64>() / ratios.len() as f64;
     println!("geometric mean {:.2}", mean.exp());
     assert_eq!(library.tried, reference.tried);
@@ -104,11 +103,10 @@ fn bench_table(library: &mut Side, reference: &mut Side, table: &Workload) -> f6
         other => panic!("{} is {other:?}", table.name),
     };
     let slower = library.time(table, 1).max(reference.time(table, 1));
-    let walks = 1 + (TIMING.as_nanos() / slower.as_nanos().max(1)) as u64;
-    let (ours, theirs) = medians(
-        || library.time(table, walks),
-        || reference.time(table, walks),
-    );
+    let walks = repeats(slower);
+    let [ours, theirs] = medians([&mut || library.time(table, walks), &mut || {
+        reference.time(table, walks)
+    }]);
     let per_place = |time: f64| time * 1e9 / (walks * places) as f64;
     let (functions, truths) = counts(&table.problem);
     println!(
@@ -123,20 +121,6 @@ fn bench_table(library: &mut Side, reference: &mut Side, table: &Workload) -> f6
         theirs / ours
     );
     theirs / ours
-}
-
-/// The medians, in seconds, of timings taken in turn.
-fn medians(mut ours: impl FnMut() -> Duration, mut theirs: impl FnMut() -> Duration) -> (f64, f64) {
-    let (mut left, mut right) = (Vec::new(), Vec::new());
-    for _ in 0..ROUNDS {
-        left.push(ours());
-        right.push(theirs());
-    }
-    let median = |mut times: Vec<Duration>| {
-        times.sort();
-        times[times.len() / 2].as_secs_f64()
-    };
-    (median(left), median(right))
 }
 
 /// The distinct function and predicate applications of a problem.
@@ -156,17 +140,16 @@ fn table_nodes(side: &mut Side, table: &Workload) -> usize {
 /// Prints how many small jobs each side does in a second.
 fn bench_jobs(library: &mut Side, reference: &mut Side) {
     let jobs = workloads::small_jobs(JOBS);
-    let (ours, theirs) = medians(|| library.time_jobs(&jobs), || reference.time_jobs(&jobs));
+    let [ours, theirs] = medians([&mut || library.time_jobs(&jobs), &mut || {
+        reference.time_jobs(&jobs)
+    }]);
     let per_second = |time: f64| jobs.len() as f64 / time;
     println!("{JOBS} small jobs, in jobs per second:");
     println!("  library   {:>10.0}", per_second(ours));
     println!("  reference {:>10.0}", per_second(theirs));
     match bench_z3(reference, &jobs) {
         Ok(time) => println!("  z3        {:>10.0}", per_second(time)),
-        Err(error) if error.kind() == io::ErrorKind::NotFound => {
-            println!("  z3 is not on the PATH")
-        }
-        Err(error) => println!("  z3 did not run: {error}"),
+        Err(error) => println!("  {}", without_z3(&error)),
     }
 }
 
@@ -177,7 +160,7 @@ fn bench_z3(reference: &mut Side, jobs: &[Vec<u8>]) -> io::Result<f64> {
         script += &smt::job(job).expect("a small job is accepted");
     }
     let start = Instant::now();
-    let output = run_z3(script)?;
+    let output = run_z3(script.into_bytes())?;
     let time = start.elapsed().as_secs_f64();
     let wanted = jobs
         .iter()
@@ -191,19 +174,4 @@ fn bench_z3(reference: &mut Side, jobs: &[Vec<u8>]) -> io::Result<f64> {
         let kind = io::ErrorKind::InvalidData;
         Err(io::Error::new(kind, "its verdicts are not ours"))
     }
-}
-
-/// What z3 prints for a script.
-fn run_z3(script: String) -> io::Result<String> {
-    let mut z3 = Command::new("z3")
-        .arg("-in")
-        .stdin(Stdio::piped())
-        .stdout(Stdio::piped())
-        .spawn()?;
-    let mut input = z3.stdin.take().expect("z3's input is a pipe");
-    let writer = thread::spawn(move || input.write_all(script.as_bytes()));
-    let output = z3.wait_with_output()?;
-    writer.join().expect("the writer does not panic")?;
-    let invalid = |error| io::Error::new(io::ErrorKind::InvalidData, error);
-    String::from_utf8(output.stdout).map_err(invalid)
 }

@@ -1,0 +1,100 @@
+//! Texts read per second, and the time of texts of 64 KB.
+
+use std::io;
+use std::time::{Duration, Instant};
+
+use eqp::workloads::texts::{self, Text};
+use eqp::{reference, Reading, PROBLEM_LEN};
+
+use crate::timing::{medians, repeats, run_z3, without_z3};
+
+/// How many small texts there are.
+const TEXTS: usize = 100_000;
+/// How many of them go through z3, and how often each long one.
+const FOR_Z3: usize = 2_000;
+const LONG_FOR_Z3: usize = 2;
+
+/// One side, and what all its answers come to: a reading that nobody looks at might be left out.
+struct Side {
+    read: fn(&[u8], &mut [u8]) -> Reading,
+    sum: u64,
+}
+
+impl Side {
+    /// The time of reading these texts so often.
+    fn time(&mut self, texts: &[&[u8]], times: u64) -> Duration {
+        let start = Instant::now();
+        let mut problem = [0; PROBLEM_LEN];
+        for _ in 0..times {
+            for text in texts {
+                self.sum += match (self.read)(text, &mut problem) {
+                    Reading::Read { length } => length as u64,
+                    Reading::Refused { number, place } => u64::from(number) + place,
+                };
+            }
+        }
+        start.elapsed()
+    }
+}
+
+/// Prints a line for each side and the small texts, and one for each long text.
+pub fn bench() {
+    let mut reference = Side {
+        read: reference::read,
+        sum: 0,
+    };
+    bench_small(&mut reference);
+    println!(
+        "{:<28} {:>6} {:>14} {:>14}",
+        "text", "bytes", "reference us", "z3's parse us"
+    );
+    for text in texts::long() {
+        bench_long(&mut reference, &text);
+    }
+}
+
+fn bench_small(reference: &mut Side) {
+    let small = texts::small(TEXTS);
+    let slices: Vec<&[u8]> = small.iter().map(|text| &text[..]).collect();
+    let [theirs] = medians([&mut || reference.time(&slices, 1)]);
+    println!("{TEXTS} small texts, in texts per second:");
+    println!("  reference {:>10.0}", TEXTS as f64 / theirs);
+    match parse(&slices[..FOR_Z3]) {
+        Ok(time) => println!("  z3's parse {:>9.0}", FOR_Z3 as f64 / time),
+        Err(error) => println!("  {}", without_z3(&error)),
+    }
+}
+
+fn bench_long(reference: &mut Side, text: &Text) {
+    let slices = [&text.bytes[..]];
+    let times = repeats(reference.time(&slices, 1));
+    let [theirs] = medians([&mut || reference.time(&slices, times)]);
+    let z3 = parse(&[slices[0]; LONG_FOR_Z3]);
+    println!(
+        "{:<28} {:>6} {:>14.0} {:>14}",
+        text.name,
+        text.bytes.len(),
+        theirs * 1e6 / times as f64,
+        z3.map_or_else(
+            |_| "-".to_string(),
+            |time| format!("{:.0}", time * 1e6 / LONG_FOR_Z3 as f64)
+        ),
+    );
+}
+
+/// The seconds that one z3 process takes to read texts without their check-sat; the start of the
+/// process counts.
+fn parse(texts: &[&[u8]]) -> io::Result<f64> {
+    let mut script = Vec::new();
+    for text in texts {
+        script.extend_from_slice(&text[..text.len() - "(check-sat)".len()]);
+        script.extend_from_slice(b"\n(reset)\n");
+    }
+    let start = Instant::now();
+    let printed = run_z3(script)?;
+    let time = start.elapsed().as_secs_f64();
+    match printed.lines().next() {
+        None => Ok(time),
+        Some(line) => Err(io::Error::new(io::ErrorKind::InvalidData, line)),
+    }
+}
