@@ -13,7 +13,7 @@ use Rattle.definitions.specs.Text.Ascii.{sameBytes}
 use Rattle.definitions.specs.Text.Tokens.{opening, closing, nought, wrong, symbol, word, kindOf, nameOf, sameToken}
 use Rattle.definitions.specs.Text.Tokens as tokens
 use Rattle.theorems.proofs.Laws.Tests.{none≢some}
-use Rattle.text.specs.Lexing.{between, lexemeRead, LexemeWithin}
+use Rattle.text.specs.Lexing.{between, lexemeRead, LexemeWithin, LexemeFits}
 use Rattle.text.specs.Reading.{isToken, Exactly, Exacts, dueRead, StepWithin}
 use Rattle.text.specs.declared.tokens.Lexeme.{Lexeme}
 use Rattle.text.specs.declared.tokens.Token.{Token}
@@ -82,3 +82,12 @@ pub due-met : (text name : List ℕ) {due d : Due} {s : Step} {at : ℕ} (r : St
     → Exacts text (dueRead due name) s r × StepWithin text r
 due-met text name {due} {d} {s} {at} r p q e =
     (subst (λ (z : Step). Exacts text (dueRead due name) z r) (sym p) (subst (λ (z : Due). Exactly text at (dueRead z name) r) (sym q) e), exactly-within text at (dueRead d name) r e)
+
+pub lexeme-fits : (text : List ℕ) (at : ℕ) (t : Token) (l : Lexeme) → LexemeWithin text at t l → LexemeFits text l
+lexeme-fits text at t Lexeme.End w = tt
+lexeme-fits text at t Lexeme.Opening w = tt
+lexeme-fits text at t Lexeme.Closing w = tt
+lexeme-fits text at t Lexeme.Nought w = tt
+lexeme-fits text at t Lexeme.Wrong w = tt
+lexeme-fits text at t (Lexeme.Symbol n) w = w .1
+lexeme-fits text at t (Lexeme.Word n) w = w .1

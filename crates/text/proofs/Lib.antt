@@ -12,3 +12,4 @@ pub mod Rows
 pub mod Streams
 pub mod TokenLaws
 pub mod TermSteps
+pub mod RankSteps

@@ -53,6 +53,16 @@ LexemeWithin text at t Lexeme.Wrong = at < t .next
 LexemeWithin text at t (Lexeme.Symbol n) = (at < t .next) × NameWithin text n
 LexemeWithin text at t (Lexeme.Word n) = (at < t .next) × NameWithin text n
 
+-- a lexeme's name lies within the text
+abbrev pub LexemeFits : List ℕ → Lexeme → Type 0
+LexemeFits text Lexeme.End = Unit {0}
+LexemeFits text Lexeme.Opening = Unit {0}
+LexemeFits text Lexeme.Closing = Unit {0}
+LexemeFits text Lexeme.Nought = Unit {0}
+LexemeFits text Lexeme.Wrong = Unit {0}
+LexemeFits text (Lexeme.Symbol n) = NameWithin text n
+LexemeFits text (Lexeme.Word n) = NameWithin text n
+
 -- a word of digits: 0 alone is a token (L4); a byte by itself: a bracket, or no token (L7)
 abbrev pub numeralRead : List ℕ → Lexeme
 numeralRead name = elim (sameBytes name (48 ∷ [])) [ true ↦ Lexeme.Nought | false ↦ Lexeme.Wrong ]

@@ -9,3 +9,4 @@ pub mod Rowing
 pub mod Symbols
 pub mod Commands
 pub mod Terms
+pub mod Ranks

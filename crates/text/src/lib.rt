@@ -6,6 +6,7 @@ pub mod heads;
 pub mod lists;
 pub mod nodes;
 pub mod prologue;
+pub mod ranks;
 pub mod terms;
 pub mod tokens;
 pub mod words;
