@@ -13,8 +13,8 @@ use borrow.Author.Tests.{lt-ltb, le-ltb}
 use Rattle.definitions.specs.Problem.Ops.{Sort, term, formula}
 use Rattle.definitions.specs.Text.Tokens.{closing, symbol, sameToken}
 use Rattle.definitions.specs.Text.Tokens as tokens
-use Rattle.definitions.specs.Text.Grammar.{Command, BOOL, sortWritten}
-use Rattle.definitions.specs.Text.Reader.{State, taking, giving, gave, unlessNot, step}
+use Rattle.definitions.specs.Text.Grammar.{Command, BOOL}
+use Rattle.definitions.specs.Text.Reader.{State, gave, unlessNot, step}
 use Rattle.theorems.proofs.Text.Taken.Runs.{token-same}
 use Rattle.text.specs.Lexing.{lexemeRead, Lexed}
 use Rattle.text.specs.Reading.{Reached, WrongAt, isToken}

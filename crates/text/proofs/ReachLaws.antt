@@ -1,18 +1,17 @@
 -- One token more of a text that is read so far: it is taken, and the state is the next; or it is not, and the text is refused there
 -- (02, E1: 14, 15, "the earlier one, 14 if equal"). Assumes nothing.
 use mathlib.Core.Path.{_≡_, refl, sym, ap, _∙_, subst}
-use Prim.Native.Nat.{ℕ, zero, suc, _≤_, _<_}
-use native.Mathlib.Omega.{arith}
-use mathlib.Core.Bool.{Bool, true, false, true≢false}
+use Prim.Native.Nat.{ℕ, _≤_, _<_}
+use mathlib.Core.Bool.{Bool, true, false}
 use mathlib.Core.List.{List, [], _∷_, _++_, append-assoc}
 use mathlib.Core.Option.{Option, none, some}
-use lib.ListN.{length, drop}
+use lib.ListN.{length}
 use lib.Dec.{ltb}
 use borrow.Author.Tests.{lt-ltb, le-ltb}
 use Rattle.definitions.specs.Lists.{snoc}
 use Rattle.definitions.specs.Problem.Check.{refuse}
 use Rattle.definitions.specs.Operations.Answers.{Answer, refused, given}
-use Rattle.definitions.specs.Text.Tokens.{Placed, tokensOf, tokensFrom, sameToken}
+use Rattle.definitions.specs.Text.Tokens.{Placed, tokensOf, sameToken}
 use Rattle.definitions.specs.Text.Tokens as tokens
 use Rattle.definitions.specs.Text.Grammar.{Script}
 use Rattle.definitions.specs.Text.Reader.{State, Stage, exact, start, goes, unlessNot, step, levelOf, isFinished, scriptOf, readFrom, scriptRead}

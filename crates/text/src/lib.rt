@@ -9,4 +9,5 @@ pub mod prologue;
 pub mod ranks;
 pub mod terms;
 pub mod tokens;
+pub mod whole;
 pub mod words;

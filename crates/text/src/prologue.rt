@@ -1,9 +1,6 @@
 // What every text begins with: (set-logic QF_UF)(declare-sort NAME 0).
-ghost use Prim.Native.Nat.{_≤_};
-ghost use lib.ListN.{length};
 ghost use Rattle.definitions.specs.Text.Reader.{start, goes, naming};
 ghost use Rattle.text.specs.Reading.{ReachedBy, StepWithin};
-ghost use Rattle.text.specs.Commands.{SortNamed, Begun};
 use crate::bytes::is_of;
 use crate::bytes::same;
 use crate::exact::Due;

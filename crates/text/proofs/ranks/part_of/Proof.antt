@@ -7,7 +7,7 @@ use mathlib.Core.List.{List, [], _∷_}
 use mathlib.Core.Option.{some}
 use types.Run.{OneOf, miss}
 use Rattle.definitions.specs.Text.Ascii.{sameBytes}
-use Rattle.definitions.specs.Text.Tokens.{closing, symbol, sameToken}
+use Rattle.definitions.specs.Text.Tokens.{closing, symbol}
 use Rattle.definitions.specs.Text.Grammar.{BOOL}
 use Rattle.theorems.proofs.Text.Taken.Runs.{same-bytes}
 use Rattle.text.specs.Lexing.{nameOf, lexemeRead, LexemeFits, NameWithin}

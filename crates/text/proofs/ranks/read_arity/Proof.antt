@@ -2,7 +2,7 @@
 use mathlib.Core.Path.{_≡_, ap, subst}
 use borrow.Author.Needs.{needs}
 use mathlib.Core.Option.{some}
-use Prim.Native.Nat.{ℕ, _+_, _-_, _≤_, _<_}
+use Prim.Native.Nat.{ℕ, _-_, _≤_}
 use native.Mathlib.Omega.{arith}
 use mathlib.Core.Bool.{false}
 use mathlib.Core.List.{List, [], _∷_}
@@ -11,7 +11,7 @@ use lib.ListN.{length}
 use types.Run.{OneOf, miss}
 use denote.Enum.Declared
 use Rattle.definitions.specs.Text.Tokens.{closing, symbol}
-use Rattle.definitions.specs.Text.Grammar.{Command, BOOL}
+use Rattle.definitions.specs.Text.Grammar.{Command}
 use Rattle.text.specs.Lexing.{nameOf, lexemeRead}
 use Rattle.text.specs.Reading.{Reached, isToken}
 use Rattle.text.specs.Ranks.{PartIs, inTaking}
