@@ -11,4 +11,5 @@ pub mod ReachLaws
 pub mod Rows
 pub mod Streams
 pub mod TokenLaws
+pub mod TermRights
 pub mod TermSteps
