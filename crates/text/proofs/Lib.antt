@@ -4,6 +4,7 @@ pub mod DeclaredLaws
 pub mod HeadLaws
 pub mod LexLaws
 pub mod LexemeLaws
+pub mod ListBelow
 pub mod ListLaws
 pub mod ListSteps
 pub mod NameLaws
