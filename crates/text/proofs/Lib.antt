@@ -4,6 +4,7 @@ pub mod DeclaredLaws
 pub mod HeadLaws
 pub mod LexLaws
 pub mod LexemeLaws
+pub mod ListBelow
 pub mod ListLaws
 pub mod ListSteps
 pub mod NameLaws
@@ -11,5 +12,6 @@ pub mod ReachLaws
 pub mod Rows
 pub mod Streams
 pub mod TokenLaws
+pub mod TermRights
 pub mod TermSteps
 pub mod RankSteps

@@ -29,19 +29,24 @@ found-any f i xs = go (firstFailing (λ x. not (f x)) i xs) refl
     go none e = sym (any-none f i xs e)
     go (some k) e = sym (any-some f i k xs e)
 
--- right commands declare names that are new, each in its turn
-fresh-all : (sig : List Symbol) (cs : List Command) → Fresh sig → commandsRight sig cs ≡ true → Fresh (afterAll sig cs)
-fresh-all sig [] fresh e = fresh
-fresh-all sig (c ∷ cs) fresh e =
-    fresh-all (after sig c) cs (one c (and-left (commandRight sig c) (commandsRight (after sig c) cs) e))
-    (and-right (commandRight sig c) (commandsRight (after sig c) cs) e)
-  where
-    one : (c : Command) → commandRight sig c ≡ true → Fresh (after sig c)
-    one (declare y) p = fresh-snoc sig y fresh (and-left (newFunction sig (y .name)) _ p)
-    one (assert t) p = fresh
+-- what each right command keeps of the symbols declared so far, right commands keep
+module _ (P : List Symbol → Type 0) (keeps : (sig : List Symbol) (c : Command) → commandRight sig c ≡ true → P sig → P (after sig c)) where
+  all-keep : (sig : List Symbol) (cs : List Command) → P sig → commandsRight sig cs ≡ true → P (afterAll sig cs)
+  all-keep sig [] p e = p
+  all-keep sig (c ∷ cs) p e =
+      all-keep (after sig c) cs (keeps sig c (and-left (commandRight sig c) (commandsRight (after sig c) cs) e) p)
+      (and-right (commandRight sig c) (commandsRight (after sig c) cs) e)
 
+  pub commands-keep : (cs : List Command) → P [] → commandsRight [] cs ≡ true → P (symbolsIn cs)
+  commands-keep cs p e = subst P (after-all [] cs) (all-keep [] cs p e)
+
+-- right commands declare names that are new, each in its turn
 pub ready-fresh : (cs : List Command) → commandsRight [] cs ≡ true → Fresh (symbolsIn cs)
-ready-fresh cs e = subst Fresh (after-all [] cs) (fresh-all [] cs (λ k h. absurd (omega arith)) e)
+ready-fresh cs e = commands-keep Fresh one cs (λ k h. absurd (omega arith)) e
+  where
+    one : (sig : List Symbol) (c : Command) → commandRight sig c ≡ true → Fresh sig → Fresh (after sig c)
+    one sig (declare y) p fresh = fresh-snoc sig y fresh (and-left (newFunction sig (y .name)) _ p)
+    one sig (assert t) p fresh = fresh
 
 -- names of which only one passes a test differ
 pub apart : (p : List ℕ → Bool) (xs ys : List ℕ) → p xs ≡ true → p ys ≡ false → sameBytes xs ys ≡ false

@@ -1,6 +1,6 @@
 -- The declared symbols as the code keeps them, and the heads that it finds (02, E1). Assumes nothing.
 use mathlib.Core.Path.{_≡_}
-use Prim.Native.Nat.{ℕ, _+_, _*_, _≤_, _<_}
+use Prim.Native.Nat.{ℕ, zero, suc, _+_, _*_, _≤_, _<_}
 use mathlib.Core.Bool.{Bool, true, false}
 use mathlib.Core.List.{List}
 use mathlib.Core.Option.{none, some}
@@ -12,6 +12,8 @@ use Rattle.definitions.specs.Text.Grammar.{
   symbolAt,
   symbolsIn,
   Command,
+  Wanted,
+  left,
   declared,
   ite,
   equals,
@@ -112,3 +114,8 @@ ArityIs sig Head.Or = Unit {0}
 ArityIs sig Head.Implies = Unit {0}
 ArityIs sig Head.True = Unit {0}
 ArityIs sig Head.False = Unit {0}
+
+-- the arguments wanted after so many
+abbrev pub leftAfter : ℕ → Wanted → Wanted
+leftAfter zero w = w
+leftAfter (suc n) w = leftAfter n (left w)
