@@ -8,10 +8,11 @@ pub mod ListBelow
 pub mod ListLaws
 pub mod ListSteps
 pub mod NameLaws
+pub mod RankSteps
 pub mod ReachLaws
 pub mod Rows
 pub mod Streams
-pub mod TokenLaws
 pub mod TermRights
 pub mod TermSteps
-pub mod RankSteps
+pub mod TokenLaws
+pub mod ByteTables

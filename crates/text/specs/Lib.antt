@@ -10,3 +10,4 @@ pub mod Symbols
 pub mod Commands
 pub mod Terms
 pub mod Ranks
+pub mod Scripts
