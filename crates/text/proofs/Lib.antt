@@ -16,3 +16,4 @@ pub mod TermRights
 pub mod TermSteps
 pub mod TokenLaws
 pub mod ByteTables
+pub mod Arguments

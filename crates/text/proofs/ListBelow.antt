@@ -21,8 +21,7 @@ use Rattle.definitions.specs.Text.Grammar.{
   falsum,
 }
 use Rattle.definitions.specs.Text.Nodes.{Tree, headTree, Laid, laid, ask, lay}
-use Rattle.text.specs.Lists.{
-  Row,
+use Rattle.text.specs.Lists.{Row,
   Kept,
   kept,
   noRow,
@@ -37,8 +36,7 @@ use Rattle.text.specs.Lists.{
   joins,
   added,
   argument,
-  arguments,
-}
+  arguments, awaiting}
 use Rattle.theorems.specs.Origins.{NoTwins}
 use Rattle.theorems.proofs.Laws.Ops.{AllBelow}
 use Rattle.theorems.proofs.Text.Meant.Shared.{Earlier, ask-given, ask-earlier}
@@ -200,10 +198,6 @@ module _ (symbols : List ℕ) where
   all-below : (h : Head) (xs : List Tree) (k : Kept) → AllFull symbols xs → AllPresent xs → KeptBelow k → KeptBelow (arguments h xs k)
   all-below h [] k f p b = b
   all-below h (x ∷ xs) k f p b = all-below h xs (argument h x k) (f .1) (p .1) (argument-below h x k (f .0) (p .0) b)
-
--- the row and the table when one more argument comes
-abbrev pub awaiting : Head → List Tree → List Node → Kept
-awaiting h xs t = let k = arguments h xs (kept noRow t) in prepared h (k .row) (k .table)
 
 pub arguments-snoc : (h : Head) (xs : List Tree) (x : Tree) (t : List Node)
     → arguments h (snoc xs x) (kept noRow t)

@@ -20,8 +20,7 @@ use Rattle.definitions.specs.Text.Grammar.{
   falsum,
 }
 use Rattle.definitions.specs.Text.Nodes.{Tree, over3, pair, notTree, leftward, equations, rightward, headTree, Laid, laid, ask, lay}
-use Rattle.text.specs.Lists.{
-  Row,
+use Rattle.text.specs.Lists.{Row,
   Kept,
   kept,
   noRow,
@@ -38,26 +37,13 @@ use Rattle.text.specs.Lists.{
   ended,
   argument,
   arguments,
-  listLaid,
-}
+  listLaid, Counted}
 use Rattle.theorems.specs.Origins.{NoTwins}
 use Rattle.theorems.proofs.Text.Meant.Shared.{Earlier, ask-twins}
 use Rattle.theorems.proofs.Text.Meant.Laying.{Present, AllPresent, Full, lay-twins}
 use Rattle.theorems.proofs.Text.Meant.Again.{lay-extends, again}
 use Rattle.theorems.proofs.Text.Meant.Heights.{lay-many, rightward-height}
 use Rattle.text.proofs.ListSteps.{Grows, grows-on, grows-length, ask-grows, added-grows, arguments-grow, ended-grows, arguments-twins, Quiet, negated-later}
-
--- the counts of arguments that the grammar lets a head have, as far as laying needs them
-abbrev pub Counted : Head → List Tree → Type 0
-Counted (declared s k) xs = length xs ≤ 3
-Counted (ite s) xs = length xs ≤ 3
-Counted equals xs = 2 ≤ length xs
-Counted negation xs = length xs ≡ 1
-Counted conjunction xs = 1 ≤ length xs
-Counted disjunction xs = 1 ≤ length xs
-Counted implication xs = 1 ≤ length xs
-Counted verum xs = xs ≡ []
-Counted falsum xs = xs ≡ []
 
 pub arguments-append : (h : Head) (xs us : List Tree) (k : Kept) → arguments h (xs ++ us) k ≡ arguments h us (arguments h xs k)
 arguments-append h [] us k = refl

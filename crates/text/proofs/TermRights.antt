@@ -52,7 +52,7 @@ use Rattle.theorems.proofs.Text.Meant.Reading.{Small, anything, prefix-agrees, 
 use Rattle.theorems.proofs.Text.Taken.Kept.Invariant.{rowRight, remaining}
 use Rattle.text.specs.Symbols.{leftAfter}
 use Rattle.text.proofs.NameLaws.{commands-keep}
-use Rattle.text.proofs.ListLaws.{Counted}
+use Rattle.text.specs.Lists.{Counted}
 
 -- one more term, one more tree
 pub trees-put : (row : Terms) (h : Head) (args : Terms) → treesOf (put row h args) ≡ snoc (treesOf row) (headTree h (treesOf args))

@@ -1,7 +1,9 @@
 -- A list of arguments laid as it is read, one argument after the other: what is kept of it between two arguments, and how it ends.
 -- That this lays what the pairs of the definition lay is a law (proofs/ListLaws). Assumes nothing.
-use Prim.Native.Nat.{ℕ, zero, suc}
+use Prim.Native.Nat.{ℕ, zero, suc, _≤_}
+use mathlib.Core.Path.{_≡_}
 use mathlib.Core.List.{List, [], _∷_}
+use lib.ListN.{length}
 use Rattle.definitions.specs.Problem.Node.{Node, plain}
 use Rattle.definitions.specs.Problem.Ops.{term, formula}
 use Rattle.definitions.specs.Text.Grammar.{
@@ -159,3 +161,19 @@ arguments h (x ∷ xs) k = arguments h xs (argument h x k)
 
 abbrev pub listLaid : Head → List Tree → List Node → Laid
 listLaid h xs t = let k = arguments h xs (kept noRow t) in ended h (k .row) (k .table)
+
+-- the row and the table when one more argument comes
+abbrev pub awaiting : Head → List Tree → List Node → Kept
+awaiting h xs t = let k = arguments h xs (kept noRow t) in prepared h (k .row) (k .table)
+
+-- the counts of arguments that the grammar lets a head have, as far as laying needs them
+abbrev pub Counted : Head → List Tree → Type 0
+Counted (declared s k) xs = length xs ≤ 3
+Counted (ite s) xs = length xs ≤ 3
+Counted equals xs = 2 ≤ length xs
+Counted negation xs = length xs ≡ 1
+Counted conjunction xs = 1 ≤ length xs
+Counted disjunction xs = 1 ≤ length xs
+Counted implication xs = 1 ≤ length xs
+Counted verum xs = xs ≡ []
+Counted falsum xs = xs ≡ []

@@ -2,7 +2,7 @@
 use mathlib.Core.Path.{_≡_}
 use Prim.Native.Nat.{ℕ, _+_, _≤_, _<_}
 use mathlib.Core.Bool.{Bool, true, false}
-use mathlib.Core.List.{List}
+use mathlib.Core.List.{List, _++_}
 use mathlib.Core.Option.{some}
 use lib.ListN.{length}
 use Rattle.definitions.specs.Problem.Node as table
@@ -10,20 +10,25 @@ use Rattle.definitions.specs.Text.Tokens.{closing}
 use Rattle.definitions.specs.Text.Grammar.{Symbol, Terms, Command, symbolsIn, Wanted, wantedBy, sortOfHead, next, left, headRight, termsRight}
 use Rattle.definitions.specs.Text.Grammar as grammar
 use Rattle.definitions.specs.Text.Reader.{Opened, State, inside, put, scriptRead}
-use Rattle.definitions.specs.Text.Nodes.{symbolBytes, headTree, treesOf, lay}
+use Rattle.definitions.specs.Lists.{snoc}
+use Rattle.definitions.specs.Text.Nodes.{Tree, symbolBytes, headTree, treesOf, lay}
 use Rattle.definitions.specs.Operations.Answers.{refused}
 use Rattle.definitions.specs.Operations.Readings.{refusalRead}
 use Rattle.definitions.specs.declared.Refusal.{Refusal}
 use Rattle.theorems.specs.Origins.{NoTwins}
 use Rattle.theorems.proofs.Text.Meant.Shared.{Earlier}
+use Rattle.theorems.proofs.Text.Meant.Laying.{Full}
 use Rattle.text.specs.Lexing.{lexemeRead, Lexed}
 use Rattle.text.specs.Reading.{Reached, isToken}
 use Rattle.text.specs.Symbols.{sortIs, Symbols}
 use Rattle.text.specs.Laying.{tableIn, Performs}
+use Rattle.text.specs.Lists.{kept, noRow, arguments, awaiting, Counted}
+use Rattle.text.specs.Rowing.{RowIs}
 use Rattle.text.specs.declared.tokens.Token.{Token}
 use Rattle.text.specs.declared.declared.Declared.{Declared}
 use Rattle.text.specs.declared.nodes.Laying.{Laying}
 use Rattle.text.specs.declared.nodes.Asked.{Asked}
+use Rattle.text.specs.declared.lists.Row.{Row}
 use Rattle.text.specs.declared.terms.Term.{Term}
 
 -- in a list that is wanted and read so far, inside open brackets
@@ -75,3 +80,21 @@ pub record ReadsTerm (text shelf : List ℕ) (d : Declared) (t : Token) (formula
   pub sound : TermSound text (t .next) r
   pub says : (sn : List ℕ) (cs : List Command) (w : Wanted) (row : Terms) (outer : List Opened) (at : ℕ)
       → TermWanted text sn cs shelf d w row outer at t formula levels nodes l → TermSays text sn cs w row outer formula nodes l r nodes′
+
+-- a list with these first members gets a table that is too long, whatever members follow
+abbrev pub TooLongWith : List Symbol → grammar.Head → List table.Node → List Tree → Type 0
+TooLongWith sig h t xs = (us : List Tree) → Counted h (xs ++ us) → Full (symbolBytes sig) (headTree h (xs ++ us)) → 256 < length (lay (headTree h (xs ++ us)) t .table)
+
+-- the arguments that are read so far are laid behind the table t, unless it had no room before; or it has none now
+pub record ListSo (sig : List Symbol) (h : grammar.Head) (t : List table.Node) (full : Bool) (xs : List Tree) (row : Row) (pending nodes : List ℕ) (l : Laying) : Type 0 where
+  pub stays : full ≡ true → l .over ≡ true
+  pub row-so : full ≡ false → l .over ≡ false → RowIs (arguments h xs (kept noRow t) .row) row pending
+  pub table-so : full ≡ false → l .over ≡ false → arguments h xs (kept noRow t) .table ≡ tableIn nodes (l .count)
+  pub over-so : full ≡ false → l .over ≡ true → TooLongWith sig h t xs
+
+-- a further argument may come
+pub record ListReady (sig : List Symbol) (h : grammar.Head) (t : List table.Node) (full : Bool) (xs : List Tree) (row : Row) (pending nodes : List ℕ) (l : Laying) : Type 0 where
+  pub stays : full ≡ true → l .over ≡ true
+  pub row-so : full ≡ false → l .over ≡ false → RowIs (awaiting h xs t .row) row pending
+  pub table-so : full ≡ false → l .over ≡ false → awaiting h xs t .table ≡ tableIn nodes (l .count)
+  pub over-so : full ≡ false → l .over ≡ true → (x : Tree) → TooLongWith sig h t (snoc xs x)
