@@ -8,6 +8,7 @@ pub mod ListLaws
 pub mod ListSteps
 pub mod NameLaws
 pub mod ReachLaws
+pub mod RowLaws
 pub mod Rows
 pub mod Streams
 pub mod TokenLaws
