@@ -1,5 +1,7 @@
+pub mod Arguments
 pub mod AskLaws
 pub mod ByteLaws
+pub mod ByteTables
 pub mod DeclaredLaws
 pub mod HeadLaws
 pub mod LexLaws
@@ -10,10 +12,9 @@ pub mod ListSteps
 pub mod NameLaws
 pub mod RankSteps
 pub mod ReachLaws
+pub mod RowLaws
 pub mod Rows
 pub mod Streams
 pub mod TermRights
 pub mod TermSteps
 pub mod TokenLaws
-pub mod ByteTables
-pub mod Arguments

@@ -6,17 +6,46 @@ use mathlib.Core.List.{List, [], _∷_}
 use mathlib.Core.Logic.{_⊎_}
 use lib.ListN.{length, getD}
 use Rattle.definitions.specs.Problem.Node as table
-use Rattle.text.specs.Laying.{tableIn}
-use Rattle.text.specs.Lists.{Kept}
+use Rattle.text.specs.Laying.{tableIn, Performs}
+use Rattle.text.specs.Lists.{Kept, firstOr, secondOr, thirdOr, ended}
 use Rattle.text.specs.Lists as lists
+use Rattle.text.specs.Symbols.{headRead}
+use Rattle.text.specs.declared.heads.Head.{Head}
 use Rattle.text.specs.declared.lists.Row.{Row}
 use Rattle.text.specs.declared.lists.Listed.{Listed}
+use Rattle.text.specs.declared.nodes.Asked.{Asked}
 use Rattle.text.specs.declared.nodes.Laying.{Laying}
 
 -- the negations that wait, the latest first
 abbrev pub waitingIn : List ℕ → ℕ → List ℕ
 waitingIn pending zero = []
 waitingIn pending (suc n) = getD pending n 0 ∷ waitingIn pending n
+
+-- the row that the code's stands for, as far as the code keeps its count
+abbrev pub rowRead : Row → List ℕ → lists.Row
+rowRead row pending =
+    record {
+      seen = row .seen;
+      first = row .first;
+      second = row .second;
+      third = row .third;
+      last = row .last;
+      joined = row .joined;
+      pending = waitingIn pending (row .waiting);
+    }
+
+-- the code's row with one more argument
+abbrev pub placed : Row → ℕ → ℕ → Row
+placed row number joined =
+    record {
+      seen = min (suc (row .seen)) 3;
+      first = firstOr (row .seen) number (row .first);
+      second = secondOr (row .seen) number (row .second);
+      third = thirdOr (row .seen) number (row .third);
+      last = number;
+      joined = joined;
+      waiting = row .waiting;
+    }
 
 -- the code's row stands for this one
 pub record RowIs (k : lists.Row) (row : Row) (pending : List ℕ) : Type 0 where
@@ -52,3 +81,22 @@ pub record Rows (f : lists.Row → List table.Node → Kept) (row : Row) (pendin
   pub table-done : (k : lists.Row) → RowIs k row pending → l .over ≡ false → r .laying .over ≡ false
       → f k (tableIn nodes (l .count)) .table ≡ tableIn nodes′ (r .laying .count)
   pub more : (k : lists.Row) → RowIs k row pending → l .over ≡ false → r .laying .over ≡ true → TooLong (f k (tableIn nodes (l .count)))
+
+-- the number of a declared symbol is a byte
+abbrev pub SymbolSmall : Head → Type 0
+SymbolSmall (Head.Applied number f arity) = number < 256
+SymbolSmall (Head.Choice f) = Unit {0}
+SymbolSmall Head.Equals = Unit {0}
+SymbolSmall Head.Not = Unit {0}
+SymbolSmall Head.And = Unit {0}
+SymbolSmall Head.Or = Unit {0}
+SymbolSmall Head.Implies = Unit {0}
+SymbolSmall Head.True = Unit {0}
+SymbolSmall Head.False = Unit {0}
+
+-- the list's end is laid
+pub record Finishes (head : Head) (row : Row) (pending nodes : List ℕ) (l : Laying) (r : Asked) (nodes′ : List ℕ) : Type 0 where
+  pub few : r .laying .count ≤ 256
+  pub small : r .number < 256
+  pub stays : l .over ≡ true → r .laying .over ≡ true
+  pub performs : (k : lists.Row) → RowIs k row pending → SymbolSmall head → Performs (ended (headRead head) k) nodes l r nodes′

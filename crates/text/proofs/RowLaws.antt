@@ -1,0 +1,489 @@
+-- Laws of laying one thing after another, and of a list's row as the code keeps it. Assumes nothing.
+use mathlib.Core.Path.{_≡_, refl, sym, ap, ap₂, _∙_, subst}
+use Prim.Native.Nat.{ℕ, zero, suc, min, _+_, _-_, _%_, _≤_, _<_}
+use native.Mathlib.Nat.{mod-eq-of-lt}
+use native.Mathlib.Numerals.{add-one}
+use native.Mathlib.Omega.{arith}
+use mathlib.Core.Bool.{Bool, true, false, true≢false}
+use mathlib.Core.List.{List, [], _∷_}
+use mathlib.Core.Logic.{inl, inr}
+use lib.ListN.{length, getD, set}
+use lib.Seq.{getD-set-same, getD-set-other}
+use types.Run.{OneOf, miss}
+use denote.Enum.Declared
+use Rattle.definitions.specs.Problem.Node.{Node, plain}
+use Rattle.definitions.specs.Problem.Ops.{term, formula}
+use Rattle.definitions.specs.Text.Grammar.{
+  Head,
+  declared,
+  ite,
+  equals,
+  negation,
+  conjunction,
+  disjunction,
+  implication,
+  verum,
+  falsum,
+}
+use Rattle.definitions.specs.Text.Nodes.{Laid, laid, ask}
+use Rattle.text.specs.Laying.{tableIn, Performs}
+use Rattle.text.specs.Lists.{Kept, kept, pushed, negated, prepared, firstOr, secondOr, thirdOr, counted, joinedBy, alsoEqual, equated, joins, added, disjoined, ended}
+use Rattle.text.specs.Lists as lists
+use Rattle.text.specs.Rowing.{waitingIn, rowRead, placed, RowIs, RowSmall, Rows, SymbolSmall, Finishes}
+use Rattle.text.specs.Symbols.{sortIs, headRead}
+use Rattle.text.specs.declared.heads.Head as code
+use Rattle.text.specs.declared.lists.Row.{Row}
+use Rattle.text.specs.declared.lists.Listed.{Listed}
+use Rattle.text.specs.declared.nodes.Laying.{Laying}
+use Rattle.text.specs.declared.nodes.Asked.{Asked}
+use Rattle.text.proofs.heads.Head.{the-type}
+use Rattle.text.proofs.ListSteps.{Grows, grows-length, disjoined-grows}
+
+-- what stands already is not laid again
+pub stands-already : {nodes : List ℕ} (number : ℕ) (l : Laying) → l .count ≤ 256 → number < 256
+    → Performs (laid number) nodes l (record { number = number; laying = l }) nodes
+stands-already number l few small =
+    record {
+      few = few;
+      small = small;
+      stays = λ p. p;
+      done = λ p q. refl;
+      more = λ p q. absurd (true≢false (sym q ∙ p));
+    }
+
+pub performs-as : {f g : List Node → Laid} {nodes after : List ℕ} {l : Laying} {r : Asked} → f ≡ g → Performs f nodes l r after → Performs g nodes l r after
+performs-as {nodes} {after} {l} {r} e p = subst (λ (f : List Node → Laid). Performs f nodes l r after) e p
+
+-- one thing after another: where the first is too long, so are both, since the second only makes the table longer
+module _ (f : List Node → Laid) (g : ℕ → List Node → Laid) (grows : (n : ℕ) (t : List Node) → Grows t (g n t .table))
+    {nodes between after : List ℕ} {l : Laying} {a r : Asked}
+    (one : Performs f nodes l a between) (next : Performs (g (a .number)) between (a .laying) r after) where
+  abbrev start : List Node
+  start = tableIn nodes (l .count)
+
+  abbrev both : List Node → Laid
+  both t = g (f t .number) (f t .table)
+
+  through : l .over ≡ false → a .laying .over ≡ false → both start ≡ g (a .number) (tableIn between (a .laying .count))
+  through p q = ap (λ (x : Laid). g (x .number) (x .table)) (one .done p q)
+
+  both-done : (b : Bool) → a .laying .over ≡ b → l .over ≡ false → r .laying .over ≡ false
+      → both start ≡ laid (r .number) (tableIn after (r .laying .count))
+  both-done true e p q = absurd (true≢false (sym (next .stays e) ∙ q))
+  both-done false e p q = through p e ∙ next .done e q
+
+  both-more : (b : Bool) → a .laying .over ≡ b → l .over ≡ false → r .laying .over ≡ true → 256 < length (both start .table)
+  both-more true e p q =
+      let h = one .more p e in
+      let more = grows-length (f start .table) (both start .table) (grows (f start .number) (f start .table)) in
+      omega arith
+  both-more false e p q =
+      let h = next .more e q in
+      let same = ap (λ (x : Laid). length (x .table)) (through p e) in
+      omega arith
+
+  pub one-after-another : Performs (λ t. g (f t .number) (f t .table)) nodes l r after
+  one-after-another =
+      record {
+        few = next .few;
+        small = next .small;
+        stays = λ p. next .stays (one .stays p);
+        done = both-done (a .laying .over) refl;
+        more = both-more (a .laying .over) refl;
+      }
+
+-- what is joined, by the count of arguments before
+module _ (row : lists.Row) (k : ℕ) where
+  pub joined-later : (op n : ℕ) → (n ≡ 0 → ⊥) → ask (plain op (row .joined) k 0) ≡ joinedBy op n row k
+  joined-later op zero h = absurd (h refl)
+  joined-later op (suc n) h = refl
+
+  pub equated-later : (n : ℕ) → (n ≡ 0 → ⊥) → (n ≡ 1 → ⊥) → (λ t. alsoEqual row (ask (plain 2 (row .last) k 0) t)) ≡ equated n row k
+  equated-later zero h g = absurd (h refl)
+  equated-later (suc zero) h g = absurd (g refl)
+  equated-later (suc (suc n)) h g = refl
+
+-- what waits is joined from the last one on
+abbrev pub disjoining : List ℕ → ℕ → ℕ → List Node → Laid
+disjoining pending i n t = disjoined (waitingIn pending i) (laid n t)
+
+pub disjoins-one : (pending : List ℕ) (i n : ℕ) {nodes between after : List ℕ} {l : Laying} {a r : Asked} → 0 < i
+    → Performs (ask (plain 5 (getD pending (i - 1) 0) n 0)) nodes l a between → Performs (disjoining pending (i - 1) (a .number)) between (a .laying) r after
+    → Performs (disjoining pending i n) nodes l r after
+disjoins-one pending i n h one rest =
+    performs-as (ap (λ (m : ℕ). disjoining pending m n) next)
+    (one-after-another (ask (plain 5 (getD pending (i - 1) 0) n 0)) (disjoining pending (i - 1)) (λ m t. disjoined-grows (waitingIn pending (i - 1)) (laid m t)) one rest)
+  where
+    next : suc (i - 1) ≡ i
+    next = omega arith
+
+-- the code's row with any count, and any negations that wait
+abbrev rowOf : ℕ → List ℕ → Row → lists.Row
+rowOf seen waiting row =
+    record {
+      seen = seen;
+      first = row .first;
+      second = row .second;
+      third = row .third;
+      last = row .last;
+      joined = row .joined;
+      pending = waiting;
+    }
+
+row-of : {k : lists.Row} {row : Row} {pending : List ℕ} → RowIs k row pending → rowOf (k .seen) (waitingIn pending (row .waiting)) row ≡ k
+row-of {k} is =
+    λ i.
+    record {
+      seen = k .seen;
+      first = is .first-is i;
+      second = is .second-is i;
+      third = is .third-is i;
+      last = is .last-is i;
+      joined = is .joined-is i;
+      pending = is .pending-is i;
+    }
+
+-- a count is only told from 0, 1 and 2
+first-told : (s m : ℕ) → s ≡ min m 3 → (k other : ℕ) → firstOr s k other ≡ firstOr m k other
+first-told zero zero e k other = refl
+first-told zero (suc m) e k other = absurd (omega arith)
+first-told (suc s) zero e k other = absurd (omega arith)
+first-told (suc s) (suc m) e k other = refl
+
+second-told : (s m : ℕ) → s ≡ min m 3 → (k other : ℕ) → secondOr s k other ≡ secondOr m k other
+second-told zero zero e k other = refl
+second-told zero (suc m) e k other = absurd (omega arith)
+second-told (suc s) zero e k other = absurd (omega arith)
+second-told (suc zero) (suc zero) e k other = refl
+second-told (suc zero) (suc (suc m)) e k other = absurd (omega arith)
+second-told (suc (suc s)) (suc zero) e k other = absurd (omega arith)
+second-told (suc (suc s)) (suc (suc m)) e k other = refl
+
+third-told : (s m : ℕ) → s ≡ min m 3 → (k other : ℕ) → thirdOr s k other ≡ thirdOr m k other
+third-told zero zero e k other = refl
+third-told zero (suc m) e k other = absurd (omega arith)
+third-told (suc s) zero e k other = absurd (omega arith)
+third-told (suc zero) (suc zero) e k other = refl
+third-told (suc zero) (suc (suc m)) e k other = absurd (omega arith)
+third-told (suc (suc s)) (suc zero) e k other = absurd (omega arith)
+third-told (suc (suc zero)) (suc (suc zero)) e k other = refl
+third-told (suc (suc zero)) (suc (suc (suc m))) e k other = absurd (omega arith)
+third-told (suc (suc (suc s))) (suc (suc zero)) e k other = absurd (omega arith)
+third-told (suc (suc (suc s))) (suc (suc (suc m))) e k other = refl
+
+-- so what is joined does not tell two rows that differ in no more
+module _ (ps qs : List ℕ) (row : Row) (k : ℕ) (t : List Node) where
+  joined-told : (op s m : ℕ) → s ≡ min m 3 → joinedBy op s (rowOf s ps row) k t ≡ joinedBy op m (rowOf m qs row) k t
+  joined-told op zero zero e = refl
+  joined-told op zero (suc m) e = absurd (omega arith)
+  joined-told op (suc s) zero e = absurd (omega arith)
+  joined-told op (suc s) (suc m) e = refl
+
+  equated-told : (s m : ℕ) → s ≡ min m 3 → equated s (rowOf s ps row) k t ≡ equated m (rowOf m qs row) k t
+  equated-told zero zero e = refl
+  equated-told zero (suc m) e = absurd (omega arith)
+  equated-told (suc s) zero e = absurd (omega arith)
+  equated-told (suc zero) (suc zero) e = refl
+  equated-told (suc zero) (suc (suc m)) e = absurd (omega arith)
+  equated-told (suc (suc s)) (suc zero) e = absurd (omega arith)
+  equated-told (suc (suc s)) (suc (suc m)) e = refl
+
+  joins-told : (h : Head) (s m : ℕ) → s ≡ min m 3 → joins h (rowOf s ps row) k t ≡ joins h (rowOf m qs row) k t
+  joins-told (declared sort i) s m e = refl
+  joins-told (ite sort) s m e = refl
+  joins-told equals s m e = equated-told s m e
+  joins-told negation s m e = refl
+  joins-told conjunction s m e = joined-told 4 s m e
+  joins-told disjunction s m e = joined-told 5 s m e
+  joins-told implication s m e = refl
+  joins-told verum s m e = refl
+  joins-told falsum s m e = refl
+
+-- the row with one more argument, by the count of those before
+module _ (row : Row) (number joined : ℕ) where
+  abbrev nextRow : ℕ → ℕ → ℕ → ℕ → Row
+  nextRow seen first second third =
+      record { seen = seen; first = first; second = second; third = third; last = number; joined = joined; waiting = row .waiting }
+
+  placed-told : (n : ℕ) → row .seen ≡ n
+      → nextRow (min (suc n) 3) (firstOr n number (row .first)) (secondOr n number (row .second)) (thirdOr n number (row .third)) ≡ placed row number joined
+  placed-told n e = ap (λ (m : ℕ). nextRow (min (suc m) 3) (firstOr m number (row .first)) (secondOr m number (row .second)) (thirdOr m number (row .third))) (sym e)
+
+  pub placed-first : row .seen ≡ 0 → nextRow 1 number (row .second) (row .third) ≡ placed row number joined
+  placed-first e = placed-told 0 e
+
+  pub placed-second : row .seen ≡ 1 → nextRow 2 (row .first) number (row .third) ≡ placed row number joined
+  placed-second e = placed-told 1 e
+
+  pub placed-third : row .seen ≡ 2 → nextRow 3 (row .first) (row .second) number ≡ placed row number joined
+  placed-third e = placed-told 2 e
+
+  pub placed-later : row .seen ≡ 3 → nextRow (row .seen) (row .first) (row .second) (row .third) ≡ placed row number joined
+  placed-later e = ap (λ (n : ℕ). nextRow n (row .first) (row .second) (row .third)) e ∙ placed-told 3 e
+
+-- one more argument
+module _ (h : Head) (row : Row) (number : ℕ) (pending nodes after : List ℕ) (l : Laying) (a : Asked) (small : RowSmall row) (low : number < 256)
+    (joining : Performs (joins h (rowRead row []) number) nodes l a after) where
+  abbrev addedTo : lists.Row → List Node → Kept
+  addedTo k t = added h k number t
+
+  abbrev placedRow : Row
+  placedRow = placed row number (a .number)
+
+  first-low : (n : ℕ) (other : ℕ) → other < 256 → firstOr n number other < 256
+  first-low zero other h = low
+  first-low (suc n) other h = h
+
+  second-low : (n : ℕ) (other : ℕ) → other < 256 → secondOr n number other < 256
+  second-low zero other h = h
+  second-low (suc n) other h = first-low n other h
+
+  third-low : (n : ℕ) (other : ℕ) → other < 256 → thirdOr n number other < 256
+  third-low zero other h = h
+  third-low (suc n) other h = second-low n other h
+
+  placed-small : RowSmall placedRow
+  placed-small =
+      record {
+        seen-small = omega arith;
+        first-small = first-low (row .seen) (row .first) (small .first-small);
+        second-small = second-low (row .seen) (row .second) (small .second-small);
+        third-small = third-low (row .seen) (row .third) (small .third-small);
+        last-small = low;
+        joined-small = joining .small;
+        waiting-small = small .waiting-small;
+      }
+
+  module _ (k : lists.Row) (is : RowIs k row pending) where
+    joins-is : (t : List Node) → joins h k number t ≡ joins h (rowRead row []) number t
+    joins-is t =
+        ap (λ (r : lists.Row). joins h r number t) (sym (row-of is))
+        ∙ sym (joins-told (waitingIn [] (row .waiting)) (waitingIn pending (row .waiting)) row number t h (row .seen) (k .seen) (is .seen-is))
+
+    placed-is : (n : ℕ) (t : List Node) → a .number ≡ n → RowIs (counted k number (laid n t) .row) placedRow pending
+    placed-is n t e =
+        let seen = is .seen-is in
+        record {
+          seen-is = omega arith;
+          first-is = first-told (row .seen) (k .seen) seen number (row .first) ∙ ap (firstOr (k .seen) number) (is .first-is);
+          second-is = second-told (row .seen) (k .seen) seen number (row .second) ∙ ap (secondOr (k .seen) number) (is .second-is);
+          third-is = third-told (row .seen) (k .seen) seen number (row .third) ∙ ap (thirdOr (k .seen) number) (is .third-is);
+          last-is = refl;
+          joined-is = e;
+          pending-is = is .pending-is;
+        }
+
+  as-placed : Rows addedTo row pending nodes l (record { row = placedRow; laying = a .laying }) pending after
+  as-placed =
+      let t = tableIn nodes (l .count) in
+      record {
+        few = joining .few;
+        small = placed-small;
+        stays = joining .stays;
+        row-done = λ k is p q.
+            placed-is k is (joins h k number t .number) (joins h k number t .table) (sym (ap (λ (x : Laid). x .number) (joins-is k is t ∙ joining .done p q)));
+        table-done = λ k is p q. ap (λ (x : Laid). x .table) (joins-is k is t ∙ joining .done p q);
+        more = λ k is p q. let e = ap (λ (x : Laid). length (x .table)) (joins-is k is t) in let m = joining .more p q in inl (omega arith);
+      }
+
+  pub row-added : {next : Row} → next ≡ placed row number (a .number)
+      → Rows (λ k t. added h k number t) row pending nodes l (record { row = next; laying = a .laying }) pending after
+  row-added e = subst (λ (next : Row). Rows addedTo row pending nodes l (record { row = next; laying = a .laying }) pending after) (sym e) as-placed
+
+-- what is prepared: most heads, and the first argument of =>, need nothing
+pub nothing-done : (f : lists.Row → List Node → Kept) {row : Row} {pending nodes : List ℕ} {l : Laying} → RowSmall row → l .count ≤ 256
+    → ((k : lists.Row) → RowIs k row pending → (t : List Node) → f k t ≡ kept k t) → Rows f row pending nodes l (record { row = row; laying = l }) pending nodes
+nothing-done f {row} {pending} {nodes} {l} small few same =
+    let t = tableIn nodes (l .count) in
+    record {
+      few = few;
+      small = small;
+      stays = λ p. p;
+      row-done = λ k is p q. subst (λ (x : Kept). RowIs (x .row) row pending) (sym (same k is t)) is;
+      table-done = λ k is p q. ap (λ (x : Kept). x .table) (same k is t);
+      more = λ k is p q. absurd (true≢false (sym q ∙ p));
+    }
+
+pub rows-as : {f g : lists.Row → List Node → Kept} {row : Row} {pending nodes pending′ after : List ℕ} {l : Laying} {r : Listed} → f ≡ g
+    → Rows f row pending nodes l r pending′ after → Rows g row pending nodes l r pending′ after
+rows-as {row} {pending} {nodes} {pending′} {after} {l} {r} e p = subst (λ (f : lists.Row → List Node → Kept). Rows f row pending nodes l r pending′ after) e p
+
+abbrev pub negating : lists.Row → List Node → Kept
+negating k t = negated (k .seen) k t
+
+pub first-quiet : {row : Row} {pending : List ℕ} → row .seen ≡ 0 → (k : lists.Row) → RowIs k row pending → (t : List Node) → negating k t ≡ kept k t
+first-quiet e k is t = let seen = is .seen-is in let none : k .seen ≡ 0 = omega arith in ap (λ (m : ℕ). negated m k t) none
+
+-- a store behind the negations that wait leaves them
+waiting-kept : (pending : List ℕ) (w x n : ℕ) → n ≤ w → waitingIn (set pending w x) n ≡ waitingIn pending n
+waiting-kept pending w x zero h = refl
+waiting-kept pending w x (suc n) h =
+    ap₂ {C = List ℕ} (λ y ys. y ∷ ys) (getD-set-other pending w n x 0 (λ e. omega arith)) (waiting-kept pending w x n (omega arith))
+
+length-waiting : (pending : List ℕ) (n : ℕ) → length (waitingIn pending n) ≡ n
+length-waiting pending zero = refl
+length-waiting pending (suc n) = ap suc (length-waiting pending n)
+
+-- the negation of the argument before waits, where there is room for it
+module _ (row : Row) (pending nodes after : List ℕ) (l : Laying) (a : Asked) (small : RowSmall row) (some : row .seen ≡ 0 → ⊥)
+    (asking : Performs (ask (plain 3 (row .last) 0 0)) nodes l a after) where
+  abbrev start′ : List Node
+  start′ = tableIn nodes (l .count)
+
+  pushes : (k : lists.Row) → RowIs k row pending → negating k start′ ≡ pushed k (ask (plain 3 (row .last) 0 0) start′)
+  pushes k is = by (k .seen) refl
+    where
+      by : (n : ℕ) → k .seen ≡ n → negated n k start′ ≡ pushed k (ask (plain 3 (row .last) 0 0) start′)
+      by zero e = let seen = is .seen-is in absurd (some (omega arith))
+      by (suc n) e = ap (λ (m : ℕ). pushed k (ask (plain 3 m 0 0) start′)) (sym (is .last-is))
+
+  pub none-waits : row .waiting ≡ 256
+      → Rows negating row pending nodes l (record { row = row; laying = record { count = a .laying .count; over = true } }) pending after
+  none-waits full =
+      record {
+        few = asking .few;
+        small = small;
+        stays = λ p. refl;
+        row-done = λ k is p q. absurd (true≢false q);
+        table-done = λ k is p q. absurd (true≢false q);
+        more = λ k is p q.
+            let e = ap (λ (x : Kept). length (x .row .pending)) (pushes k is) in
+            let w = ap length (is .pending-is) in
+            let n = length-waiting pending (row .waiting) in
+            inr (omega arith);
+      }
+
+  abbrev waits : Row
+  waits =
+      record {
+        seen = row .seen;
+        first = row .first;
+        second = row .second;
+        third = row .third;
+        last = row .last;
+        joined = row .joined;
+        waiting = row .waiting + 1;
+      }
+
+  pub one-waits : row .waiting < 256 → length pending ≡ 256
+      → Rows negating row pending nodes l (record { row = waits; laying = a .laying }) (set pending (row .waiting) (a .number)) after
+  one-waits room long =
+      record {
+        few = asking .few;
+        small = record {
+          seen-small = small .seen-small;
+          first-small = small .first-small;
+          second-small = small .second-small;
+          third-small = small .third-small;
+          last-small = small .last-small;
+          joined-small = small .joined-small;
+          waiting-small = omega arith;
+        };
+        stays = asking .stays;
+        row-done = λ k is p q. subst (λ (x : Kept). RowIs (x .row) waits (set pending (row .waiting) (a .number))) (sym (pushes k is)) (pushed-is k is p q);
+        table-done = λ k is p q. ap (λ (x : Kept). x .table) (pushes k is) ∙ ap (λ (x : Laid). x .table) (asking .done p q);
+        more = λ k is p q.
+            let e = ap (λ (x : Kept). length (x .table)) (pushes k is) in let m = asking .more p q in inl (omega arith);
+      }
+    where
+      pushed-is : (k : lists.Row) → RowIs k row pending → l .over ≡ false → a .laying .over ≡ false
+          → RowIs (pushed k (ask (plain 3 (row .last) 0 0) start′) .row) waits (set pending (row .waiting) (a .number))
+      pushed-is k is p q =
+          record {
+            seen-is = is .seen-is;
+            first-is = is .first-is;
+            second-is = is .second-is;
+            third-is = is .third-is;
+            last-is = is .last-is;
+            joined-is = is .joined-is;
+            pending-is = ap (waitingIn (set pending (row .waiting) (a .number))) (add-one (row .waiting))
+                ∙ ap₂ {C = List ℕ} (λ y ys. y ∷ ys)
+                (getD-set-same pending (row .waiting) (a .number) 0 (omega arith) ∙ sym (ap (λ (x : Laid). x .number) (asking .done p q)))
+                (waiting-kept pending (row .waiting) (a .number) (row .waiting) (omega arith) ∙ is .pending-is);
+          }
+
+-- the list's end does not go by the count
+ended-told : (h : Head) (m n : ℕ) (ps : List ℕ) (row : Row) → ended h (rowOf m ps row) ≡ ended h (rowOf n ps row)
+ended-told (declared term k) m n ps row = refl
+ended-told (declared formula k) m n ps row = refl
+ended-told (ite term) m n ps row = refl
+ended-told (ite formula) m n ps row = refl
+ended-told equals m n ps row = refl
+ended-told negation m n ps row = refl
+ended-told conjunction m n ps row = refl
+ended-told disjunction m n ps row = refl
+ended-told implication m n ps row = refl
+ended-told verum m n ps row = refl
+ended-told falsum m n ps row = refl
+
+pub finishes : (head : code.Head) (row : Row) (pending : List ℕ) {f : List Node → Laid} {nodes after : List ℕ} {l : Laying} {r : Asked}
+    → Performs f nodes l r after → (SymbolSmall head → f ≡ ended (headRead head) (rowRead row pending)) → Finishes head row pending nodes l r after
+finishes head row pending p same =
+    record {
+      few = p .few;
+      small = p .small;
+      performs = λ k is s.
+          performs-as
+          (same s ∙ ended-told (headRead head) (row .seen) (k .seen) (waitingIn pending (row .waiting)) row ∙ ap (ended (headRead head)) (row-of is))
+          p;
+    }
+
+pub finishes-as : {head h : code.Head} {row : Row} {pending nodes after : List ℕ} {l : Laying} {r : Asked} → head ≡ h
+    → Finishes h row pending nodes l r after → Finishes head row pending nodes l r after
+finishes-as {row} {pending} {nodes} {after} {l} {r} e p = subst (λ (h : code.Head). Finishes h row pending nodes l r after) (sym e) p
+
+-- a symbol's number as a byte
+pub applied-ends : (f : Bool) (number : ℕ) (row : Row) (ps : List ℕ) → number < 256
+    → ended (declared (sortIs f) (number % 256)) (rowRead row []) ≡ ended (declared (sortIs f) number) (rowRead row ps)
+applied-ends true number row ps h = ap (λ (n : ℕ). ended (declared formula n) (rowRead row [])) (mod-eq-of-lt h)
+applied-ends false number row ps h = ap (λ (n : ℕ). ended (declared term n) (rowRead row [])) (mod-eq-of-lt h)
+
+pub choice-ends : (f : Bool) (row : Row) (ps : List ℕ) → ended (ite (sortIs f)) (rowRead row []) ≡ ended (ite (sortIs f)) (rowRead row ps)
+choice-ends true row ps = refl
+choice-ends false row ps = refl
+
+-- heads that a match leaves over
+abbrev tagOf : code.Head → ℕ
+tagOf head = Declared.tagOf the-type head
+
+abbrev quietTags : List ℕ
+quietTags = 0 ∷ 1 ∷ 2 ∷ 3 ∷ 4 ∷ 5 ∷ 7 ∷ 8 ∷ []
+
+pub quiet-else : (head : code.Head) → OneOf quietTags (tagOf head) → (row : lists.Row) (t : List Node) → prepared (headRead head) row t ≡ kept row t
+quiet-else (code.Head.Applied number f arity) o row t = refl
+quiet-else (code.Head.Choice f) o row t = refl
+quiet-else code.Head.Equals o row t = refl
+quiet-else code.Head.Not o row t = refl
+quiet-else code.Head.And o row t = refl
+quiet-else code.Head.Or o row t = refl
+quiet-else code.Head.Implies o row t = absurd (miss quietTags 6 tt o)
+quiet-else code.Head.True o row t = refl
+quiet-else code.Head.False o row t = refl
+
+abbrev singleTags : List ℕ
+singleTags = 0 ∷ 1 ∷ 3 ∷ 6 ∷ 7 ∷ 8 ∷ []
+
+pub joins-else : (head : code.Head) → OneOf singleTags (tagOf head) → (row : lists.Row) (k : ℕ) → laid k ≡ joins (headRead head) row k
+joins-else (code.Head.Applied number f arity) o row k = refl
+joins-else (code.Head.Choice f) o row k = refl
+joins-else code.Head.Equals o row k = absurd (miss singleTags 2 tt o)
+joins-else code.Head.Not o row k = refl
+joins-else code.Head.And o row k = absurd (miss singleTags 4 tt o)
+joins-else code.Head.Or o row k = absurd (miss singleTags 5 tt o)
+joins-else code.Head.Implies o row k = refl
+joins-else code.Head.True o row k = refl
+joins-else code.Head.False o row k = refl
+
+abbrev joinedTags : List ℕ
+joinedTags = 2 ∷ 4 ∷ 5 ∷ []
+
+pub ended-else : (head : code.Head) → OneOf joinedTags (tagOf head) → (row : lists.Row) → laid (row .joined) ≡ ended (headRead head) row
+ended-else (code.Head.Applied number f arity) o row = absurd (miss joinedTags 0 tt o)
+ended-else (code.Head.Choice f) o row = absurd (miss joinedTags 1 tt o)
+ended-else code.Head.Equals o row = refl
+ended-else code.Head.Not o row = absurd (miss joinedTags 3 tt o)
+ended-else code.Head.And o row = refl
+ended-else code.Head.Or o row = refl
+ended-else code.Head.Implies o row = absurd (miss joinedTags 6 tt o)
+ended-else code.Head.True o row = absurd (miss joinedTags 7 tt o)
+ended-else code.Head.False o row = absurd (miss joinedTags 8 tt o)

@@ -1,0 +1,83 @@
+-- By the head. Assumes nothing.
+use mathlib.Core.Path.{sym, ap}
+use mathlib.Core.List.{[]}
+use Rattle.text.specs.Lists.{joins}
+use Rattle.text.specs.Rowing.{rowRead}
+use Rattle.text.specs.Symbols.{headRead}
+use Rattle.text.specs.declared.heads.Head.{Head}
+use Rattle.text.proofs.RowLaws.{stands-already, performs-as, joins-else}
+use borrow.Author.Needs.{needs}
+use Rattle.text.proofs.lists.join.Statement.{statement}
+use Rattle.text.proofs.lists.join.Tie as tie
+
+enum-told : tie.Need-enum-told
+enum-told c = search needs
+
+equate-requires : tie.Need-equate-requires
+equate-requires c κs = search needs
+
+enum-told-2 : tie.Need-enum-told-2
+enum-told-2 c = search needs
+
+join-by-requires : tie.Need-join-by-requires
+join-by-requires c κs = search needs
+
+enum-told-3 : tie.Need-enum-told-3
+enum-told-3 c = search needs
+
+join-by-requires-2 : tie.Need-join-by-requires-2
+join-by-requires-2 c κs = search needs
+
+same-length : tie.Need-same-length
+same-length c = search needs
+
+returns : tie.Need-returns
+returns c =
+    let joined = c .before .before in
+    let told = joined .before .before in
+    let a = told .before .before .before .args in
+    performs-as (ap (λ (h : Head). joins (headRead h) (rowRead (a .row) []) (a .number)) (sym (told .enum-told .given .1))) (joined .equate .ensures)
+
+same-length-2 : tie.Need-same-length-2
+same-length-2 c = search needs
+
+returns-2 : tie.Need-returns-2
+returns-2 c =
+    let joined = c .before .before in
+    let told = joined .before .before in
+    let a = told .before .before .before .args in
+    performs-as (ap (λ (h : Head). joins (headRead h) (rowRead (a .row) []) (a .number)) (sym (told .enum-told2 .given .1))) (joined .join-by .ensures)
+
+same-length-3 : tie.Need-same-length-3
+same-length-3 c = search needs
+
+returns-3 : tie.Need-returns-3
+returns-3 c =
+    let joined = c .before .before in
+    let told = joined .before .before in
+    let a = told .before .before .before .args in
+    performs-as (ap (λ (h : Head). joins (headRead h) (rowRead (a .row) []) (a .number)) (sym (told .enum-told3 .given .1))) (joined .join-by2 .ensures)
+
+returns-4 : tie.Need-returns-4
+returns-4 c =
+    let s = c .before .before in
+    let a = s .args in
+    performs-as (joins-else (a .head) (c .match .keys4) (rowRead (a .row) []) (a .number)) (stands-already (a .number) (a .laying) (s .pre .0 .few) (s .pre .2))
+
+pub join-spec : {M : Type 1} → statement M
+join-spec =
+    tie.close
+    (tie.spec
+    enum-told
+    equate-requires
+    enum-told-2
+    join-by-requires
+    enum-told-3
+    join-by-requires-2
+    same-length
+    returns
+    same-length-2
+    returns-2
+    same-length-3
+    returns-3
+    returns-4)
