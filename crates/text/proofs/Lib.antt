@@ -1,5 +1,6 @@
 pub mod AskLaws
 pub mod ByteLaws
+pub mod DeclarationLaws
 pub mod DeclaredLaws
 pub mod HeadLaws
 pub mod LexLaws
