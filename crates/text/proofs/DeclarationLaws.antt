@@ -36,7 +36,7 @@ nameless (Lexeme.Symbol n) o = absurd (miss (0 ∷ 1 ∷ 2 ∷ 3 ∷ 4 ∷ []) 5
 nameless (Lexeme.Word n) o = absurd (miss (0 ∷ 1 ∷ 2 ∷ 3 ∷ 4 ∷ []) 6 tt o)
 
 -- one that is not the end is a token
-some-token : (text : List ℕ) (l : Lexeme) → OneOf (1 ∷ 2 ∷ 3 ∷ 4 ∷ 5 ∷ 6 ∷ []) (tagOf l) → (x : tokens.Token) × (lexemeRead text l ≡ some x)
+pub some-token : (text : List ℕ) (l : Lexeme) → OneOf (1 ∷ 2 ∷ 3 ∷ 4 ∷ 5 ∷ 6 ∷ []) (tagOf l) → (x : tokens.Token) × (lexemeRead text l ≡ some x)
 some-token text Lexeme.End o = absurd (miss (1 ∷ 2 ∷ 3 ∷ 4 ∷ 5 ∷ 6 ∷ []) 0 tt o)
 some-token text Lexeme.Opening o = (tokens.opening, refl)
 some-token text Lexeme.Closing o = (tokens.closing, refl)
@@ -52,10 +52,10 @@ end-empty text = ap plainTokens (no-tokens (length text) (length text) (drop (le
 
 module _ (text : List ℕ) (at : ℕ) (t : Token) (l : Lexed text at t) where
   -- the tokens from here on, by the first lexeme
-  abbrev by : Option tokens.Token → List tokens.Token
+  abbrev pub by : Option tokens.Token → List tokens.Token
   by o = plainTokens (led text (t .place) (t .next) o)
 
-  tokens-by : {o : Option tokens.Token} → lexemeRead text (t .lexeme) ≡ o → plainAt text at ≡ by o
+  pub tokens-by : {o : Option tokens.Token} → lexemeRead text (t .lexeme) ≡ o → plainAt text at ≡ by o
   tokens-by e = ap plainTokens (l .tokens-are) ∙ ap by e
 
   pub skip-end : t .lexeme ≡ Lexeme.End → SkipsTo text at (t .place)
@@ -142,15 +142,16 @@ counted-to text from at arity r c e p s =
       after = λ h. s .behind ∙ sym (c .same-end ∙ after-none (plainAt text at) (e h));
     }
 
+-- two tokens compare the same either way
+pub same-swap : (x y : tokens.Token) → sameToken x y ≡ sameToken y x
+same-swap x y =
+    same-test (sameToken x y) (sameToken y x) (λ e. ap (sameToken y) (same-token x y e) ∙ token-same y)
+    (λ e. ap (sameToken x) (same-token y x e) ∙ token-same x)
+
 -- the result is told by the token that must come
 module _ (text : List ℕ) (at : ℕ) (sn : List ℕ) where
   resultBy : Bool → Sort
   resultBy b = elim b [ true ↦ term | false ↦ formula ]
-
-  same-swap : (x y : tokens.Token) → sameToken x y ≡ sameToken y x
-  same-swap x y =
-      same-test (sameToken x y) (sameToken y x) (λ e. ap (sameToken y) (same-token x y e) ∙ token-same y)
-      (λ e. ap (sameToken x) (same-token y x e) ∙ token-same x)
 
   pub result-sort : (next : ℕ) → Exactly text at (symbol sn) (Step.At next) → resultIn sn (plainAt text at) ≡ term
   unfolding resultBy

@@ -11,4 +11,5 @@ pub mod NameLaws
 pub mod ReachLaws
 pub mod Rows
 pub mod Streams
+pub mod SymbolLaws
 pub mod TokenLaws
