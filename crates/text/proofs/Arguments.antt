@@ -138,7 +138,7 @@ module _ (sig : List Symbol) (h : Head) (t : List table.Node) (full : Bool) wher
     pub list-ends : {row : Row} {pending nodes₀ nodes : List ℕ} {l₀ l : Laying} {r : Asked} {nodes′ : List ℕ} → l₀ .over ≡ full → t ≡ tableIn nodes₀ (l₀ .count)
         → ListSo sig h t full xs row pending nodes l → Counted h xs → Full (symbolBytes sig) (headTree h xs)
         → r .laying .count ≤ 256 → r .number < 256 → (l .over ≡ true → r .laying .over ≡ true)
-        → ((k : lists.Row) → RowIs k row pending → Performs (ended h k) nodes l r nodes′) → Performs (lay (headTree h xs)) nodes₀ l₀ r nodes′
+        → (full ≡ false → (k : lists.Row) → RowIs k row pending → Performs (ended h k) nodes l r nodes′) → Performs (lay (headTree h xs)) nodes₀ l₀ r nodes′
     list-ends {row} {pending} {nodes₀} {nodes} {l₀} {l} {r} {nodes′} o e so counted whole few small stays performs =
         record {
           few = few;
@@ -159,10 +159,10 @@ module _ (sig : List Symbol) (h : Head) (t : List table.Node) (full : Bool) wher
         same p d = ap (ended h (arguments h xs (kept noRow t) .row)) (sym (so .table-so p d)) ∙ list-laid h xs t (twins p) counted
 
         done : full ≡ false → r .laying .over ≡ false → lay (headTree h xs) t ≡ laid (r .number) (tableIn nodes′ (r .laying .count))
-        done p q = let d = had q in sym (same p d) ∙ performs _ (so .row-so p d) .done d q
+        done p q = let d = had q in sym (same p d) ∙ performs p _ (so .row-so p d) .done d q
 
         more : full ≡ false → r .laying .over ≡ true → (b : Bool) → l .over ≡ b → 256 < length (lay (headTree h xs) t .table)
         more p q true d =
             subst (λ (zs : List Tree). 256 < length (lay (headTree h zs) t .table)) (append-nil xs)
             (so .over-so p d [] (subst (Counted h) (sym (append-nil xs)) counted) (subst (λ (zs : List Tree). Full (symbolBytes sig) (headTree h zs)) (sym (append-nil xs)) whole))
-        more p q false d = subst (λ (u : Laid). 256 < length (u .table)) (same p d) (performs _ (so .row-so p d) .more d q)
+        more p q false d = subst (λ (u : Laid). 256 < length (u .table)) (same p d) (performs p _ (so .row-so p d) .more d q)

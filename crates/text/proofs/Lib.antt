@@ -2,6 +2,7 @@ pub mod Arguments
 pub mod AskLaws
 pub mod ByteLaws
 pub mod ByteTables
+pub mod DeclarationLaws
 pub mod DeclaredLaws
 pub mod HeadLaws
 pub mod LexLaws
@@ -15,6 +16,7 @@ pub mod ReachLaws
 pub mod RowLaws
 pub mod Rows
 pub mod Streams
+pub mod SymbolLaws
 pub mod TermRights
 pub mod TermSteps
 pub mod TokenLaws

@@ -54,7 +54,7 @@ tokensBy f place rest =
     ]
 
 -- the count of bytes is fuel enough: more of it changes nothing
-no-tokens : (f at : ℕ) (s : List ℕ) → length s ≤ 0 → tokensFrom f at s ≡ []
+pub no-tokens : (f at : ℕ) (s : List ℕ) → length s ≤ 0 → tokensFrom f at s ≡ []
 no-tokens zero at s h = refl
 no-tokens (suc f) at [] h = refl
 no-tokens (suc f) at (x ∷ xs) h = absurd (omega arith)

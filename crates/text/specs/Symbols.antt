@@ -6,6 +6,7 @@ use mathlib.Core.List.{List}
 use mathlib.Core.Option.{none, some}
 use lib.ListN.{length, getD}
 use Rattle.definitions.specs.Problem.Ops.{Sort, term, formula}
+use Rattle.definitions.specs.Text.Ascii.{sameBytes}
 use Rattle.definitions.specs.Text.Tokens.{opening}
 use Rattle.definitions.specs.Text.Grammar.{
   Symbol,
@@ -14,6 +15,8 @@ use Rattle.definitions.specs.Text.Grammar.{
   Command,
   Wanted,
   left,
+
+  newFunction,
   declared,
   ite,
   equals,
@@ -28,6 +31,7 @@ use Rattle.definitions.specs.Text.Grammar as grammar
 use Rattle.definitions.specs.Text.Heads.{inhabited}
 use Rattle.definitions.specs.Text.Reader.{State, exact, commanding}
 use Rattle.definitions.specs.Text.Nodes.{byteOf}
+use Rattle.problem.specs.declared.bytes.Found.{Found}
 use Rattle.text.specs.Lexing.{between, nameOf, NameWithin}
 use Rattle.text.specs.Reading.{Reached}
 use Rattle.text.specs.Named.{resolve}
@@ -50,6 +54,9 @@ fromOn shelf i = getD shelf (3 * i) 0
 abbrev pub toOn : List ℕ → ℕ → ℕ
 toOn shelf i = getD shelf (3 * i + 1) 0
 
+abbrev pub nameOn : List ℕ → List ℕ → ℕ → List ℕ
+nameOn text shelf i = between text (fromOn shelf i) (toOn shelf i)
+
 abbrev pub byteOn : List ℕ → ℕ → ℕ
 byteOn shelf i = getD shelf (3 * i + 2) 0
 
@@ -66,7 +73,7 @@ pub record ShelfSound (text shelf : List ℕ) (count : ℕ) : Type 0 where
 -- the shelf has the first of these symbols
 pub record Shelved (text : List ℕ) (sig : List Symbol) (shelf : List ℕ) (d : Declared) : Type 0 where
   pub counted : d .count ≡ length sig
-  pub named : (i : ℕ) → OnShelf shelf (d .count) i → between text (fromOn shelf i) (toOn shelf i) ≡ symbolAt sig i .name
+  pub named : (i : ℕ) → OnShelf shelf (d .count) i → nameOn text shelf i ≡ symbolAt sig i .name
   pub typed : (i : ℕ) → OnShelf shelf (d .count) i → byteOn shelf i ≡ symbolByte (symbolAt sig i)
   pub inhabits : d .inhabited ≡ inhabited sig term
 
@@ -119,3 +126,28 @@ ArityIs sig Head.False = Unit {0}
 abbrev pub leftAfter : ℕ → Wanted → Wanted
 leftAfter zero w = w
 leftAfter (suc n) w = leftAfter n (left w)
+
+-- the first place on the shelf that has a name
+abbrev pub FoundOn : List ℕ → List ℕ → ℕ → List ℕ → Found → Type 0
+FoundOn text shelf held name (Found.At i) =
+    (i < held) × (sameBytes name (nameOn text shelf i) ≡ true) × ((j : ℕ) → j < i → sameBytes name (nameOn text shelf j) ≡ false)
+FoundOn text shelf held name Found.Nothing = (j : ℕ) → j < held → sameBytes name (nameOn text shelf j) ≡ false
+
+-- the symbol of a name, whose byte is right if it takes at most three arguments
+abbrev pub KnownIn : List Symbol → List ℕ → Known → Type 0
+KnownIn sig name (Known.Symbol number byte) =
+    (resolve sig name ≡ some number) × (byte < 20) × (symbolAt sig number .arity ≤ 3 → byte ≡ symbolByte (symbolAt sig number))
+KnownIn sig name Known.Nothing = resolve sig name ≡ none
+
+abbrev pub KnownSmall : Known → Type 0
+KnownSmall (Known.Symbol number byte) = byte < 20
+KnownSmall Known.Nothing = Unit {0}
+
+-- the symbol of a name is found among those of a text that is read so far, and whatever is read its byte is small
+pub record Finds (text shelf : List ℕ) (d : Declared) (name : List ℕ) (r : Known) : Type 0 where
+  pub known : (sn : List ℕ) (cs : List Command) → Symbols text sn cs shelf d → KnownIs (symbolsIn cs) name r
+  pub small : KnownSmall r
+
+-- a name may be declared
+abbrev pub Frees : List ℕ → List ℕ → Declared → List ℕ → Bool → Type 0
+Frees text shelf d name r = (sn : List ℕ) (cs : List Command) → Symbols text sn cs shelf d → r ≡ newFunction (symbolsIn cs) name
