@@ -346,6 +346,7 @@ finishes head row pending p same =
     record {
       few = p .few;
       small = p .small;
+      stays = p .stays;
       performs = λ k is s.
           performs-as
           (same s ∙ ended-told (headRead head) (row .seen) (k .seen) (waitingIn pending (row .waiting)) row ∙ ap (ended (headRead head)) (row-of is))

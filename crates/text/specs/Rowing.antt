@@ -94,8 +94,9 @@ SymbolSmall Head.Implies = Unit {0}
 SymbolSmall Head.True = Unit {0}
 SymbolSmall Head.False = Unit {0}
 
--- the list's end is laid
+-- the list's end is laid; what stands before `performs` holds whatever was read
 pub record Finishes (head : Head) (row : Row) (pending nodes : List ℕ) (l : Laying) (r : Asked) (nodes′ : List ℕ) : Type 0 where
   pub few : r .laying .count ≤ 256
   pub small : r .number < 256
+  pub stays : l .over ≡ true → r .laying .over ≡ true
   pub performs : (k : lists.Row) → RowIs k row pending → SymbolSmall head → Performs (ended (headRead head) k) nodes l r nodes′
