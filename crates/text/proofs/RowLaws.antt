@@ -1,16 +1,13 @@
 -- Laws of laying one thing after another, and of a list's row as the code keeps it. Assumes nothing.
 use mathlib.Core.Path.{_≡_, refl, sym, ap, ap₂, _∙_, subst}
-use Prim.Native.Nat.{ℕ, zero, suc, min, _+_, _-_, _%_, _≤_, _<_}
-use native.Mathlib.Nat.{mod-eq-of-lt}
+use Prim.Native.Nat.{ℕ, zero, suc, min, _+_, _≤_, _<_}
 use native.Mathlib.Numerals.{add-one}
 use native.Mathlib.Omega.{arith}
 use mathlib.Core.Bool.{Bool, true, false, true≢false}
 use mathlib.Core.List.{List, [], _∷_}
 use mathlib.Core.Logic.{inl, inr}
-use lib.ListN.{length, getD, set}
+use lib.ListN.{length, set}
 use lib.Seq.{getD-set-same, getD-set-other}
-use types.Run.{OneOf, miss}
-use denote.Enum.Declared
 use Rattle.definitions.specs.Problem.Node.{Node, plain}
 use Rattle.definitions.specs.Problem.Ops.{term, formula}
 use Rattle.definitions.specs.Text.Grammar.{
@@ -27,17 +24,16 @@ use Rattle.definitions.specs.Text.Grammar.{
 }
 use Rattle.definitions.specs.Text.Nodes.{Laid, laid, ask}
 use Rattle.text.specs.Laying.{tableIn, Performs}
-use Rattle.text.specs.Lists.{Kept, kept, pushed, negated, prepared, firstOr, secondOr, thirdOr, counted, joinedBy, alsoEqual, equated, joins, added, disjoined, ended}
+use Rattle.text.specs.Lists.{Kept, kept, pushed, negated, firstOr, secondOr, thirdOr, counted, joinedBy, equated, joins, added, ended}
 use Rattle.text.specs.Lists as lists
 use Rattle.text.specs.Rowing.{waitingIn, rowRead, placed, RowIs, RowSmall, Rows, SymbolSmall, Finishes}
-use Rattle.text.specs.Symbols.{sortIs, headRead}
+use Rattle.text.specs.Symbols.{headRead}
 use Rattle.text.specs.declared.heads.Head as code
 use Rattle.text.specs.declared.lists.Row.{Row}
 use Rattle.text.specs.declared.lists.Listed.{Listed}
 use Rattle.text.specs.declared.nodes.Laying.{Laying}
 use Rattle.text.specs.declared.nodes.Asked.{Asked}
-use Rattle.text.proofs.heads.Head.{the-type}
-use Rattle.text.proofs.ListSteps.{Grows, grows-length, disjoined-grows}
+use Rattle.text.proofs.ListSteps.{Grows, grows-length}
 
 -- what stands already is not laid again
 pub stands-already : {nodes : List ℕ} (number : ℕ) (l : Laying) → l .count ≤ 256 → number < 256
@@ -92,31 +88,6 @@ module _ (f : List Node → Laid) (g : ℕ → List Node → Laid) (grows : (n :
         more = both-more (a .laying .over) refl;
       }
 
--- what is joined, by the count of arguments before
-module _ (row : lists.Row) (k : ℕ) where
-  pub joined-later : (op n : ℕ) → (n ≡ 0 → ⊥) → ask (plain op (row .joined) k 0) ≡ joinedBy op n row k
-  joined-later op zero h = absurd (h refl)
-  joined-later op (suc n) h = refl
-
-  pub equated-later : (n : ℕ) → (n ≡ 0 → ⊥) → (n ≡ 1 → ⊥) → (λ t. alsoEqual row (ask (plain 2 (row .last) k 0) t)) ≡ equated n row k
-  equated-later zero h g = absurd (h refl)
-  equated-later (suc zero) h g = absurd (g refl)
-  equated-later (suc (suc n)) h g = refl
-
--- what waits is joined from the last one on
-abbrev pub disjoining : List ℕ → ℕ → ℕ → List Node → Laid
-disjoining pending i n t = disjoined (waitingIn pending i) (laid n t)
-
-pub disjoins-one : (pending : List ℕ) (i n : ℕ) {nodes between after : List ℕ} {l : Laying} {a r : Asked} → 0 < i
-    → Performs (ask (plain 5 (getD pending (i - 1) 0) n 0)) nodes l a between → Performs (disjoining pending (i - 1) (a .number)) between (a .laying) r after
-    → Performs (disjoining pending i n) nodes l r after
-disjoins-one pending i n h one rest =
-    performs-as (ap (λ (m : ℕ). disjoining pending m n) next)
-    (one-after-another (ask (plain 5 (getD pending (i - 1) 0) n 0)) (disjoining pending (i - 1)) (λ m t. disjoined-grows (waitingIn pending (i - 1)) (laid m t)) one rest)
-  where
-    next : suc (i - 1) ≡ i
-    next = omega arith
-
 -- the code's row with any count, and any negations that wait
 abbrev rowOf : ℕ → List ℕ → Row → lists.Row
 rowOf seen waiting row =
@@ -144,49 +115,20 @@ row-of {k} is =
     }
 
 -- a count is only told from 0, 1 and 2
-first-told : (s m : ℕ) → s ≡ min m 3 → (k other : ℕ) → firstOr s k other ≡ firstOr m k other
-first-told zero zero e k other = refl
-first-told zero (suc m) e k other = absurd (omega arith)
-first-told (suc s) zero e k other = absurd (omega arith)
-first-told (suc s) (suc m) e k other = refl
-
-second-told : (s m : ℕ) → s ≡ min m 3 → (k other : ℕ) → secondOr s k other ≡ secondOr m k other
-second-told zero zero e k other = refl
-second-told zero (suc m) e k other = absurd (omega arith)
-second-told (suc s) zero e k other = absurd (omega arith)
-second-told (suc zero) (suc zero) e k other = refl
-second-told (suc zero) (suc (suc m)) e k other = absurd (omega arith)
-second-told (suc (suc s)) (suc zero) e k other = absurd (omega arith)
-second-told (suc (suc s)) (suc (suc m)) e k other = refl
-
-third-told : (s m : ℕ) → s ≡ min m 3 → (k other : ℕ) → thirdOr s k other ≡ thirdOr m k other
-third-told zero zero e k other = refl
-third-told zero (suc m) e k other = absurd (omega arith)
-third-told (suc s) zero e k other = absurd (omega arith)
-third-told (suc zero) (suc zero) e k other = refl
-third-told (suc zero) (suc (suc m)) e k other = absurd (omega arith)
-third-told (suc (suc s)) (suc zero) e k other = absurd (omega arith)
-third-told (suc (suc zero)) (suc (suc zero)) e k other = refl
-third-told (suc (suc zero)) (suc (suc (suc m))) e k other = absurd (omega arith)
-third-told (suc (suc (suc s))) (suc (suc zero)) e k other = absurd (omega arith)
-third-told (suc (suc (suc s))) (suc (suc (suc m))) e k other = refl
+told : {A : Type 0} (f g : ℕ → A) → f 0 ≡ g 0 → f 1 ≡ g 1 → f 2 ≡ g 2 → ((n : ℕ) → f 3 ≡ g (suc (suc (suc n)))) → (s m : ℕ) → s ≡ min m 3 → f s ≡ g m
+told f g a b c d s zero e = let e′ : s ≡ 0 = omega arith in ap f e′ ∙ a
+told f g a b c d s (suc zero) e = let e′ : s ≡ 1 = omega arith in ap f e′ ∙ b
+told f g a b c d s (suc (suc zero)) e = let e′ : s ≡ 2 = omega arith in ap f e′ ∙ c
+told f g a b c d s (suc (suc (suc n))) e = let e′ : s ≡ 3 = omega arith in ap f e′ ∙ d n
 
 -- so what is joined does not tell two rows that differ in no more
 module _ (ps qs : List ℕ) (row : Row) (k : ℕ) (t : List Node) where
   joined-told : (op s m : ℕ) → s ≡ min m 3 → joinedBy op s (rowOf s ps row) k t ≡ joinedBy op m (rowOf m qs row) k t
-  joined-told op zero zero e = refl
-  joined-told op zero (suc m) e = absurd (omega arith)
-  joined-told op (suc s) zero e = absurd (omega arith)
-  joined-told op (suc s) (suc m) e = refl
+  joined-told op =
+      told (λ n. joinedBy op n (rowOf n ps row) k t) (λ n. joinedBy op n (rowOf n qs row) k t) refl refl refl (λ n. refl)
 
   equated-told : (s m : ℕ) → s ≡ min m 3 → equated s (rowOf s ps row) k t ≡ equated m (rowOf m qs row) k t
-  equated-told zero zero e = refl
-  equated-told zero (suc m) e = absurd (omega arith)
-  equated-told (suc s) zero e = absurd (omega arith)
-  equated-told (suc zero) (suc zero) e = refl
-  equated-told (suc zero) (suc (suc m)) e = absurd (omega arith)
-  equated-told (suc (suc s)) (suc zero) e = absurd (omega arith)
-  equated-told (suc (suc s)) (suc (suc m)) e = refl
+  equated-told = told (λ n. equated n (rowOf n ps row) k t) (λ n. equated n (rowOf n qs row) k t) refl refl refl (λ n. refl)
 
   joins-told : (h : Head) (s m : ℕ) → s ≡ min m 3 → joins h (rowOf s ps row) k t ≡ joins h (rowOf m qs row) k t
   joins-told (declared sort i) s m e = refl
@@ -198,28 +140,6 @@ module _ (ps qs : List ℕ) (row : Row) (k : ℕ) (t : List Node) where
   joins-told implication s m e = refl
   joins-told verum s m e = refl
   joins-told falsum s m e = refl
-
--- the row with one more argument, by the count of those before
-module _ (row : Row) (number joined : ℕ) where
-  abbrev nextRow : ℕ → ℕ → ℕ → ℕ → Row
-  nextRow seen first second third =
-      record { seen = seen; first = first; second = second; third = third; last = number; joined = joined; waiting = row .waiting }
-
-  placed-told : (n : ℕ) → row .seen ≡ n
-      → nextRow (min (suc n) 3) (firstOr n number (row .first)) (secondOr n number (row .second)) (thirdOr n number (row .third)) ≡ placed row number joined
-  placed-told n e = ap (λ (m : ℕ). nextRow (min (suc m) 3) (firstOr m number (row .first)) (secondOr m number (row .second)) (thirdOr m number (row .third))) (sym e)
-
-  pub placed-first : row .seen ≡ 0 → nextRow 1 number (row .second) (row .third) ≡ placed row number joined
-  placed-first e = placed-told 0 e
-
-  pub placed-second : row .seen ≡ 1 → nextRow 2 (row .first) number (row .third) ≡ placed row number joined
-  placed-second e = placed-told 1 e
-
-  pub placed-third : row .seen ≡ 2 → nextRow 3 (row .first) (row .second) number ≡ placed row number joined
-  placed-third e = placed-told 2 e
-
-  pub placed-later : row .seen ≡ 3 → nextRow (row .seen) (row .first) (row .second) (row .third) ≡ placed row number joined
-  placed-later e = ap (λ (n : ℕ). nextRow n (row .first) (row .second) (row .third)) e ∙ placed-told 3 e
 
 -- one more argument
 module _ (h : Head) (row : Row) (number : ℕ) (pending nodes after : List ℕ) (l : Laying) (a : Asked) (small : RowSmall row) (low : number < 256)
@@ -260,14 +180,18 @@ module _ (h : Head) (row : Row) (number : ℕ) (pending nodes after : List ℕ) 
         ap (λ (r : lists.Row). joins h r number t) (sym (row-of is))
         ∙ sym (joins-told (waitingIn [] (row .waiting)) (waitingIn pending (row .waiting)) row number t h (row .seen) (k .seen) (is .seen-is))
 
+    place-told : (f : ℕ → ℕ → ℕ → ℕ) (x : ℕ) → ((n : ℕ) → f 3 number x ≡ f (suc (suc (suc n))) number x)
+        → f (row .seen) number x ≡ f (k .seen) number x
+    place-told f x h = told (λ n. f n number x) (λ n. f n number x) refl refl refl h (row .seen) (k .seen) (is .seen-is)
+
     placed-is : (n : ℕ) (t : List Node) → a .number ≡ n → RowIs (counted k number (laid n t) .row) placedRow pending
     placed-is n t e =
         let seen = is .seen-is in
         record {
           seen-is = omega arith;
-          first-is = first-told (row .seen) (k .seen) seen number (row .first) ∙ ap (firstOr (k .seen) number) (is .first-is);
-          second-is = second-told (row .seen) (k .seen) seen number (row .second) ∙ ap (secondOr (k .seen) number) (is .second-is);
-          third-is = third-told (row .seen) (k .seen) seen number (row .third) ∙ ap (thirdOr (k .seen) number) (is .third-is);
+          first-is = place-told firstOr (row .first) (λ n. refl) ∙ ap (firstOr (k .seen) number) (is .first-is);
+          second-is = place-told secondOr (row .second) (λ n. refl) ∙ ap (secondOr (k .seen) number) (is .second-is);
+          third-is = place-told thirdOr (row .third) (λ n. refl) ∙ ap (thirdOr (k .seen) number) (is .third-is);
           last-is = refl;
           joined-is = e;
           pending-is = is .pending-is;
@@ -327,15 +251,15 @@ length-waiting pending (suc n) = ap suc (length-waiting pending n)
 -- the negation of the argument before waits, where there is room for it
 module _ (row : Row) (pending nodes after : List ℕ) (l : Laying) (a : Asked) (small : RowSmall row) (some : row .seen ≡ 0 → ⊥)
     (asking : Performs (ask (plain 3 (row .last) 0 0)) nodes l a after) where
-  abbrev start′ : List Node
-  start′ = tableIn nodes (l .count)
+  abbrev tableBefore : List Node
+  tableBefore = tableIn nodes (l .count)
 
-  pushes : (k : lists.Row) → RowIs k row pending → negating k start′ ≡ pushed k (ask (plain 3 (row .last) 0 0) start′)
+  pushes : (k : lists.Row) → RowIs k row pending → negating k tableBefore ≡ pushed k (ask (plain 3 (row .last) 0 0) tableBefore)
   pushes k is = by (k .seen) refl
     where
-      by : (n : ℕ) → k .seen ≡ n → negated n k start′ ≡ pushed k (ask (plain 3 (row .last) 0 0) start′)
+      by : (n : ℕ) → k .seen ≡ n → negated n k tableBefore ≡ pushed k (ask (plain 3 (row .last) 0 0) tableBefore)
       by zero e = let seen = is .seen-is in absurd (some (omega arith))
-      by (suc n) e = ap (λ (m : ℕ). pushed k (ask (plain 3 m 0 0) start′)) (sym (is .last-is))
+      by (suc n) e = ap (λ (m : ℕ). pushed k (ask (plain 3 m 0 0) tableBefore)) (sym (is .last-is))
 
   pub none-waits : row .waiting ≡ 256
       → Rows negating row pending nodes l (record { row = row; laying = record { count = a .laying .count; over = true } }) pending after
@@ -387,7 +311,7 @@ module _ (row : Row) (pending nodes after : List ℕ) (l : Laying) (a : Asked) (
       }
     where
       pushed-is : (k : lists.Row) → RowIs k row pending → l .over ≡ false → a .laying .over ≡ false
-          → RowIs (pushed k (ask (plain 3 (row .last) 0 0) start′) .row) waits (set pending (row .waiting) (a .number))
+          → RowIs (pushed k (ask (plain 3 (row .last) 0 0) tableBefore) .row) waits (set pending (row .waiting) (a .number))
       pushed-is k is p q =
           record {
             seen-is = is .seen-is;
@@ -432,59 +356,3 @@ finishes head row pending p same =
 pub finishes-as : {head h : code.Head} {row : Row} {pending nodes after : List ℕ} {l : Laying} {r : Asked} → head ≡ h
     → Finishes h row pending nodes l r after → Finishes head row pending nodes l r after
 finishes-as {row} {pending} {nodes} {after} {l} {r} e p = subst (λ (h : code.Head). Finishes h row pending nodes l r after) (sym e) p
-
--- a symbol's number as a byte
-pub applied-ends : (f : Bool) (number : ℕ) (row : Row) (ps : List ℕ) → number < 256
-    → ended (declared (sortIs f) (number % 256)) (rowRead row []) ≡ ended (declared (sortIs f) number) (rowRead row ps)
-applied-ends true number row ps h = ap (λ (n : ℕ). ended (declared formula n) (rowRead row [])) (mod-eq-of-lt h)
-applied-ends false number row ps h = ap (λ (n : ℕ). ended (declared term n) (rowRead row [])) (mod-eq-of-lt h)
-
-pub choice-ends : (f : Bool) (row : Row) (ps : List ℕ) → ended (ite (sortIs f)) (rowRead row []) ≡ ended (ite (sortIs f)) (rowRead row ps)
-choice-ends true row ps = refl
-choice-ends false row ps = refl
-
--- heads that a match leaves over
-abbrev tagOf : code.Head → ℕ
-tagOf head = Declared.tagOf the-type head
-
-abbrev quietTags : List ℕ
-quietTags = 0 ∷ 1 ∷ 2 ∷ 3 ∷ 4 ∷ 5 ∷ 7 ∷ 8 ∷ []
-
-pub quiet-else : (head : code.Head) → OneOf quietTags (tagOf head) → (row : lists.Row) (t : List Node) → prepared (headRead head) row t ≡ kept row t
-quiet-else (code.Head.Applied number f arity) o row t = refl
-quiet-else (code.Head.Choice f) o row t = refl
-quiet-else code.Head.Equals o row t = refl
-quiet-else code.Head.Not o row t = refl
-quiet-else code.Head.And o row t = refl
-quiet-else code.Head.Or o row t = refl
-quiet-else code.Head.Implies o row t = absurd (miss quietTags 6 tt o)
-quiet-else code.Head.True o row t = refl
-quiet-else code.Head.False o row t = refl
-
-abbrev singleTags : List ℕ
-singleTags = 0 ∷ 1 ∷ 3 ∷ 6 ∷ 7 ∷ 8 ∷ []
-
-pub joins-else : (head : code.Head) → OneOf singleTags (tagOf head) → (row : lists.Row) (k : ℕ) → laid k ≡ joins (headRead head) row k
-joins-else (code.Head.Applied number f arity) o row k = refl
-joins-else (code.Head.Choice f) o row k = refl
-joins-else code.Head.Equals o row k = absurd (miss singleTags 2 tt o)
-joins-else code.Head.Not o row k = refl
-joins-else code.Head.And o row k = absurd (miss singleTags 4 tt o)
-joins-else code.Head.Or o row k = absurd (miss singleTags 5 tt o)
-joins-else code.Head.Implies o row k = refl
-joins-else code.Head.True o row k = refl
-joins-else code.Head.False o row k = refl
-
-abbrev joinedTags : List ℕ
-joinedTags = 2 ∷ 4 ∷ 5 ∷ []
-
-pub ended-else : (head : code.Head) → OneOf joinedTags (tagOf head) → (row : lists.Row) → laid (row .joined) ≡ ended (headRead head) row
-ended-else (code.Head.Applied number f arity) o row = absurd (miss joinedTags 0 tt o)
-ended-else (code.Head.Choice f) o row = absurd (miss joinedTags 1 tt o)
-ended-else code.Head.Equals o row = refl
-ended-else code.Head.Not o row = absurd (miss joinedTags 3 tt o)
-ended-else code.Head.And o row = refl
-ended-else code.Head.Or o row = refl
-ended-else code.Head.Implies o row = absurd (miss joinedTags 6 tt o)
-ended-else code.Head.True o row = absurd (miss joinedTags 7 tt o)
-ended-else code.Head.False o row = absurd (miss joinedTags 8 tt o)

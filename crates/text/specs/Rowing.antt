@@ -94,7 +94,7 @@ SymbolSmall Head.Implies = Unit {0}
 SymbolSmall Head.True = Unit {0}
 SymbolSmall Head.False = Unit {0}
 
--- the list's end is laid
+-- the list's end is laid; what stands before `performs` holds whatever was read
 pub record Finishes (head : Head) (row : Row) (pending nodes : List ℕ) (l : Laying) (r : Asked) (nodes′ : List ℕ) : Type 0 where
   pub few : r .laying .count ≤ 256
   pub small : r .number < 256

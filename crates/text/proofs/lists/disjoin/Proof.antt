@@ -1,17 +1,35 @@
 -- The loop keeps that whatever lays the rest lays the whole. Assumes nothing.
 use mathlib.Core.Path.{_≡_, refl, ap, _∙_}
-use Prim.Native.Nat.{ℕ, _≤_, _<_}
+use Prim.Native.Nat.{ℕ, suc, _-_, _≤_, _<_}
 use native.Mathlib.Omega.{arith}
 use mathlib.Core.List.{List}
-use lib.ListN.{length}
+use lib.ListN.{length, getD}
 use borrow.Author.Needs.{needs}
-use Rattle.definitions.specs.Problem.Node.{plain}
-use Rattle.definitions.specs.Text.Nodes.{ask}
+use Rattle.definitions.specs.Problem.Node.{Node, plain}
+use Rattle.definitions.specs.Text.Nodes.{Laid, laid, ask}
 use Rattle.text.specs.Laying.{Performs}
+use Rattle.text.specs.Lists.{disjoined}
+use Rattle.text.specs.Rowing.{waitingIn}
+use Rattle.text.specs.declared.nodes.Laying.{Laying}
 use Rattle.text.specs.declared.nodes.Asked.{Asked}
-use Rattle.text.proofs.RowLaws.{stands-already, performs-as, disjoining, disjoins-one}
+use Rattle.text.proofs.ListSteps.{disjoined-grows}
+use Rattle.text.proofs.RowLaws.{stands-already, performs-as, one-after-another}
 use Rattle.text.proofs.lists.disjoin.Statement.{statement}
 use Rattle.text.proofs.lists.disjoin.Tie as tie
+
+-- what waits is joined from the last one on
+abbrev disjoining : List ℕ → ℕ → ℕ → List Node → Laid
+disjoining pending i n t = disjoined (waitingIn pending i) (laid n t)
+
+disjoins-one : (pending : List ℕ) (i n : ℕ) {nodes between after : List ℕ} {l : Laying} {a r : Asked} → 0 < i
+    → Performs (ask (plain 5 (getD pending (i - 1) 0) n 0)) nodes l a between → Performs (disjoining pending (i - 1) (a .number)) between (a .laying) r after
+    → Performs (disjoining pending i n) nodes l r after
+disjoins-one pending i n h one rest =
+    performs-as (ap (λ (m : ℕ). disjoining pending m n) next)
+    (one-after-another (ask (plain 5 (getD pending (i - 1) 0) n 0)) (disjoining pending (i - 1)) (λ m t. disjoined-grows (waitingIn pending (i - 1)) (laid m t)) one rest)
+  where
+    next : suc (i - 1) ≡ i
+    next = omega arith
 
 record Joining (pending nodes₀ : List ℕ) (asked₀ : Asked) (i₀ : ℕ) (nodes : List ℕ) (asked : Asked) (i : ℕ) : Type 0 where
   long : length nodes ≡ length nodes₀

@@ -1,15 +1,24 @@
 -- The first argument stands; the second makes an equation; a later one an equation that is joined. Assumes nothing.
-use mathlib.Core.Path.{sym, ap}
+use mathlib.Core.Path.{_≡_, refl, sym, ap}
+use Prim.Native.Nat.{ℕ, zero, suc}
 use mathlib.Core.List.{[]}
+use borrow.Author.Needs.{needs}
 use Rattle.definitions.specs.Problem.Node.{plain}
 use Rattle.definitions.specs.Text.Nodes.{ask}
-use Rattle.text.specs.Lists.{equated}
+use Rattle.text.specs.Lists.{alsoEqual, equated}
+use Rattle.text.specs.Lists as lists
 use Rattle.text.specs.Rowing.{rowRead}
 use Rattle.text.proofs.ListSteps.{ask-grows}
-use Rattle.text.proofs.RowLaws.{stands-already, performs-as, one-after-another, equated-later}
-use borrow.Author.Needs.{needs}
+use Rattle.text.proofs.RowLaws.{stands-already, performs-as, one-after-another}
 use Rattle.text.proofs.lists.equate.Statement.{statement}
 use Rattle.text.proofs.lists.equate.Tie as tie
+
+-- after the first two arguments
+module _ (row : lists.Row) (k : ℕ) where
+  equated-later : (n : ℕ) → (n ≡ 0 → ⊥) → (n ≡ 1 → ⊥) → (λ t. alsoEqual row (ask (plain 2 (row .last) k 0) t)) ≡ equated n row k
+  equated-later zero h g = absurd (h refl)
+  equated-later (suc zero) h g = absurd (g refl)
+  equated-later (suc (suc n)) h g = refl
 
 returns : tie.Need-returns
 returns c =

@@ -1,11 +1,53 @@
 -- By the head. Assumes nothing.
-use mathlib.Core.Path.{refl}
-use Rattle.text.specs.declared.heads.Head.{Head}
-use Rattle.text.specs.Rowing.{rowRead}
-use Rattle.text.proofs.RowLaws.{stands-already, finishes, finishes-as, applied-ends, choice-ends, ended-else}
+use mathlib.Core.Path.{_≡_, refl, ap}
+use Prim.Native.Nat.{ℕ, _%_, _<_}
+use native.Mathlib.Nat.{mod-eq-of-lt}
+use mathlib.Core.Bool.{Bool, true, false}
+use mathlib.Core.List.{List, [], _∷_}
+use types.Run.{OneOf, miss}
+use denote.Enum.Declared
 use borrow.Author.Needs.{needs}
+use Rattle.definitions.specs.Problem.Ops.{term, formula}
+use Rattle.definitions.specs.Text.Grammar.{declared, ite}
+use Rattle.definitions.specs.Text.Nodes.{laid}
+use Rattle.text.specs.Lists.{ended}
+use Rattle.text.specs.Lists as lists
+use Rattle.text.specs.Rowing.{rowRead}
+use Rattle.text.specs.Symbols.{sortIs, headRead}
+use Rattle.text.specs.declared.heads.Head.{Head}
+use Rattle.text.specs.declared.lists.Row.{Row}
+use Rattle.text.proofs.heads.Head.{the-type}
+use Rattle.text.proofs.RowLaws.{stands-already, finishes, finishes-as}
 use Rattle.text.proofs.lists.finish.Statement.{statement}
 use Rattle.text.proofs.lists.finish.Tie as tie
+
+-- a symbol's number as a byte
+applied-ends : (f : Bool) (number : ℕ) (row : Row) (ps : List ℕ) → number < 256
+    → ended (declared (sortIs f) (number % 256)) (rowRead row []) ≡ ended (declared (sortIs f) number) (rowRead row ps)
+applied-ends true number row ps h = ap (λ (n : ℕ). ended (declared formula n) (rowRead row [])) (mod-eq-of-lt h)
+applied-ends false number row ps h = ap (λ (n : ℕ). ended (declared term n) (rowRead row [])) (mod-eq-of-lt h)
+
+choice-ends : (f : Bool) (row : Row) (ps : List ℕ) → ended (ite (sortIs f)) (rowRead row []) ≡ ended (ite (sortIs f)) (rowRead row ps)
+choice-ends true row ps = refl
+choice-ends false row ps = refl
+
+-- the heads that the match leaves over
+abbrev tagOf : Head → ℕ
+tagOf head = Declared.tagOf the-type head
+
+abbrev joinedTags : List ℕ
+joinedTags = 2 ∷ 4 ∷ 5 ∷ []
+
+ended-else : (head : Head) → OneOf joinedTags (tagOf head) → (row : lists.Row) → laid (row .joined) ≡ ended (headRead head) row
+ended-else (Head.Applied number f arity) o row = absurd (miss joinedTags 0 tt o)
+ended-else (Head.Choice f) o row = absurd (miss joinedTags 1 tt o)
+ended-else Head.Equals o row = refl
+ended-else Head.Not o row = absurd (miss joinedTags 3 tt o)
+ended-else Head.And o row = refl
+ended-else Head.Or o row = refl
+ended-else Head.Implies o row = absurd (miss joinedTags 6 tt o)
+ended-else Head.True o row = absurd (miss joinedTags 7 tt o)
+ended-else Head.False o row = absurd (miss joinedTags 8 tt o)
 
 enum-known-head : tie.Need-enum-known-head
 enum-known-head c = search needs

@@ -1,14 +1,38 @@
 -- By the head. Assumes nothing.
-use mathlib.Core.Path.{sym, ap}
-use mathlib.Core.List.{[]}
+use mathlib.Core.Path.{_≡_, refl, sym, ap}
+use Prim.Native.Nat.{ℕ}
+use mathlib.Core.List.{List, [], _∷_}
+use types.Run.{OneOf, miss}
+use denote.Enum.Declared
+use borrow.Author.Needs.{needs}
+use Rattle.definitions.specs.Text.Nodes.{laid}
 use Rattle.text.specs.Lists.{joins}
+use Rattle.text.specs.Lists as lists
 use Rattle.text.specs.Rowing.{rowRead}
 use Rattle.text.specs.Symbols.{headRead}
 use Rattle.text.specs.declared.heads.Head.{Head}
-use Rattle.text.proofs.RowLaws.{stands-already, performs-as, joins-else}
-use borrow.Author.Needs.{needs}
+use Rattle.text.proofs.heads.Head.{the-type}
+use Rattle.text.proofs.RowLaws.{stands-already, performs-as}
 use Rattle.text.proofs.lists.join.Statement.{statement}
 use Rattle.text.proofs.lists.join.Tie as tie
+
+-- the heads that the match leaves over
+abbrev tagOf : Head → ℕ
+tagOf head = Declared.tagOf the-type head
+
+abbrev singleTags : List ℕ
+singleTags = 0 ∷ 1 ∷ 3 ∷ 6 ∷ 7 ∷ 8 ∷ []
+
+joins-else : (head : Head) → OneOf singleTags (tagOf head) → (row : lists.Row) (k : ℕ) → laid k ≡ joins (headRead head) row k
+joins-else (Head.Applied number f arity) o row k = refl
+joins-else (Head.Choice f) o row k = refl
+joins-else Head.Equals o row k = absurd (miss singleTags 2 tt o)
+joins-else Head.Not o row k = refl
+joins-else Head.And o row k = absurd (miss singleTags 4 tt o)
+joins-else Head.Or o row k = absurd (miss singleTags 5 tt o)
+joins-else Head.Implies o row k = refl
+joins-else Head.True o row k = refl
+joins-else Head.False o row k = refl
 
 enum-told : tie.Need-enum-told
 enum-told c = search needs

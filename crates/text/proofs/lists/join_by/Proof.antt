@@ -1,12 +1,22 @@
 -- The first argument stands; a later one is joined. Assumes nothing.
-use mathlib.Core.Path.{sym, ap}
+use mathlib.Core.Path.{_≡_, refl, sym, ap}
+use Prim.Native.Nat.{ℕ, zero, suc}
 use mathlib.Core.List.{[]}
-use Rattle.text.specs.Lists.{joinedBy}
-use Rattle.text.specs.Rowing.{rowRead}
-use Rattle.text.proofs.RowLaws.{stands-already, performs-as, joined-later}
 use borrow.Author.Needs.{needs}
+use Rattle.definitions.specs.Problem.Node.{plain}
+use Rattle.definitions.specs.Text.Nodes.{ask}
+use Rattle.text.specs.Lists.{joinedBy}
+use Rattle.text.specs.Lists as lists
+use Rattle.text.specs.Rowing.{rowRead}
+use Rattle.text.proofs.RowLaws.{stands-already, performs-as}
 use Rattle.text.proofs.lists.join_by.Statement.{statement}
 use Rattle.text.proofs.lists.join_by.Tie as tie
+
+-- after the first argument
+module _ (row : lists.Row) (k : ℕ) where
+  joined-later : (op n : ℕ) → (n ≡ 0 → ⊥) → ask (plain op (row .joined) k 0) ≡ joinedBy op n row k
+  joined-later op zero h = absurd (h refl)
+  joined-later op (suc n) h = refl
 
 returns : tie.Need-returns
 returns c =

@@ -1,12 +1,37 @@
 -- Only => does something. Assumes nothing.
-use mathlib.Core.Path.{sym, ap}
-use Rattle.text.specs.Lists.{prepared}
+use mathlib.Core.Path.{_≡_, refl, sym, ap}
+use Prim.Native.Nat.{ℕ}
+use mathlib.Core.List.{List, [], _∷_}
+use types.Run.{OneOf, miss}
+use denote.Enum.Declared
+use borrow.Author.Needs.{needs}
+use Rattle.definitions.specs.Problem.Node.{Node}
+use Rattle.text.specs.Lists.{kept, prepared}
+use Rattle.text.specs.Lists as lists
 use Rattle.text.specs.Symbols.{headRead}
 use Rattle.text.specs.declared.heads.Head.{Head}
-use Rattle.text.proofs.RowLaws.{nothing-done, rows-as, quiet-else}
-use borrow.Author.Needs.{needs}
+use Rattle.text.proofs.heads.Head.{the-type}
+use Rattle.text.proofs.RowLaws.{nothing-done, rows-as}
 use Rattle.text.proofs.lists.prepare.Statement.{statement}
 use Rattle.text.proofs.lists.prepare.Tie as tie
+
+-- the heads that the match leaves over
+abbrev tagOf : Head → ℕ
+tagOf head = Declared.tagOf the-type head
+
+abbrev quietTags : List ℕ
+quietTags = 0 ∷ 1 ∷ 2 ∷ 3 ∷ 4 ∷ 5 ∷ 7 ∷ 8 ∷ []
+
+quiet-else : (head : Head) → OneOf quietTags (tagOf head) → (row : lists.Row) (t : List Node) → prepared (headRead head) row t ≡ kept row t
+quiet-else (Head.Applied number f arity) o row t = refl
+quiet-else (Head.Choice f) o row t = refl
+quiet-else Head.Equals o row t = refl
+quiet-else Head.Not o row t = refl
+quiet-else Head.And o row t = refl
+quiet-else Head.Or o row t = refl
+quiet-else Head.Implies o row t = absurd (miss quietTags 6 tt o)
+quiet-else Head.True o row t = refl
+quiet-else Head.False o row t = refl
 
 enum-told : tie.Need-enum-told
 enum-told c = search needs
