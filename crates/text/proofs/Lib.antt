@@ -11,6 +11,7 @@ pub mod NameLaws
 pub mod RankSteps
 pub mod ReachLaws
 pub mod Rows
+pub mod ScriptLaws
 pub mod Streams
 pub mod TermRights
 pub mod TermSteps
