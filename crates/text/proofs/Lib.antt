@@ -15,6 +15,7 @@ pub mod RankSteps
 pub mod ReachLaws
 pub mod RowLaws
 pub mod Rows
+pub mod ScriptLaws
 pub mod Streams
 pub mod SymbolLaws
 pub mod TermRights

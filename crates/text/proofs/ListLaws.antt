@@ -54,7 +54,7 @@ abbrev pub rest : Head → List Tree → Kept → Laid
 rest h us k = let l = arguments h us k in ended h (l .row) (l .table)
 
 -- a pair whose first tree was laid
-pair-laid : (op : ℕ) (a u : Tree) (s t : List Node) {i : ℕ} → lay a s ≡ laid i t
+pub pair-laid : (op : ℕ) (a u : Tree) (s t : List Node) {i : ℕ} → lay a s ≡ laid i t
     → lay (pair op a u) s ≡ ask (plain op i (lay u t .number) 0) (lay u t .table)
 pair-laid op a u s t p = ap (λ (x : Laid). let y = lay u (x .table) in ask (plain op (x .number) (y .number) 0) (y .table)) p
 
@@ -85,7 +85,7 @@ one-equated : (n : ℕ) (row : Row) (u : Tree) (t : List Node) → row .seen ≡
 one-equated n row u t e = let l = lay u t in ap (λ (m : ℕ). counted row (l .number) (equated m row (l .number) (l .table))) e
 
 -- an argument that was laid stands in every longer table
-stands : (u : Tree) (t v : List Node) → NoTwins v → Grows (lay u t .table) v → lay u v ≡ laid (lay u t .number) v
+pub stands : (u : Tree) (t v : List Node) → NoTwins v → Grows (lay u t .table) v → lay u v ≡ laid (lay u t .number) v
 stands u t v twins g = again u t v (g .0) (g .1) twins
 
 equations-laid : (n : ℕ) (row : Row) (a b : Tree) (us : List Tree) (s t : List Node) → NoTwins t → row .seen ≡ suc (suc n)

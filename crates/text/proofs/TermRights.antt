@@ -88,7 +88,7 @@ fits-counted symbols implication ts f = omega arith
 fits-counted symbols verum ts f = none-there ts f
 fits-counted symbols falsum ts f = none-there ts f
 
-present-of : (symbols : List ℕ) (xs : List Tree) → AllGood symbols xs → AllPresent xs
+pub present-of : (symbols : List ℕ) (xs : List Tree) → AllGood symbols xs → AllPresent xs
 present-of symbols [] g = tt
 present-of symbols (x ∷ xs) g = (g .0 .1, present-of symbols xs (g .1))
 
