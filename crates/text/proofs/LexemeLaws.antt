@@ -13,7 +13,7 @@ use Rattle.definitions.specs.Text.Tokens.{opening, closing, nought, wrong, symb
 use Rattle.definitions.specs.Text.Tokens as tokens
 use Rattle.theorems.proofs.Laws.Tests.{none≢some}
 use Rattle.text.specs.Lexing.{between, lexemeRead, LexemeWithin, LexemeFits}
-use Rattle.text.specs.Reading.{isToken, Exactly, Exacts, dueRead, StepWithin}
+use Rattle.text.specs.Reading.{isToken, NoSymbol, Exactly, Exacts, dueRead, StepWithin}
 use Rattle.text.specs.declared.tokens.Lexeme.{Lexeme}
 use Rattle.text.specs.declared.tokens.Token.{Token}
 use Rattle.text.specs.declared.exact.Step.{Step}
@@ -90,3 +90,13 @@ lexeme-fits text at t Lexeme.Nought w = tt
 lexeme-fits text at t Lexeme.Wrong w = tt
 lexeme-fits text at t (Lexeme.Symbol n) w = w .1
 lexeme-fits text at t (Lexeme.Word n) w = w .1
+
+-- no symbol stands there
+pub no-symbol-there : (text : List ℕ) (l : Lexeme) → OneOf (0 ∷ 1 ∷ 2 ∷ 3 ∷ 4 ∷ 6 ∷ []) (tagOf l) → NoSymbol (lexemeRead text l)
+no-symbol-there text Lexeme.End o = tt
+no-symbol-there text Lexeme.Opening o = refl
+no-symbol-there text Lexeme.Closing o = refl
+no-symbol-there text Lexeme.Nought o = refl
+no-symbol-there text Lexeme.Wrong o = refl
+no-symbol-there text (Lexeme.Symbol n) o = absurd (miss (0 ∷ 1 ∷ 2 ∷ 3 ∷ 4 ∷ 6 ∷ []) 5 tt o)
+no-symbol-there text (Lexeme.Word n) o = refl

@@ -21,3 +21,4 @@ pub mod SymbolLaws
 pub mod TermRights
 pub mod TermSteps
 pub mod TokenLaws
+pub mod NameSteps

@@ -9,7 +9,7 @@ use Rattle.definitions.specs.Problem.Check.{refuse}
 use Rattle.definitions.specs.Operations.Answers.{refused}
 use Rattle.definitions.specs.Text.Tokens.{opening, closing, nought, symbol, word, Placed, tokensOf, sameToken}
 use Rattle.definitions.specs.Text.Tokens as tokens
-use Rattle.definitions.specs.Text.Reader.{State, start, readFrom, scriptRead}
+use Rattle.definitions.specs.Text.Reader.{State, symbolName, start, readFrom, scriptRead}
 use Rattle.theorems.specs.Texts.{plainTokens}
 use Rattle.theorems.proofs.Text.Taken.Runs.{runs}
 use Rattle.text.specs.Lexing.{lexemeRead, tokensAt, Lexed}
@@ -31,6 +31,11 @@ WrongAt text place = scriptRead text ≡ refused (refuse 14 place)
 abbrev pub isToken : tokens.Token → Option tokens.Token → Bool
 isToken x none = false
 isToken x (some y) = sameToken x y
+
+-- no symbol stands there
+abbrev pub NoSymbol : Option tokens.Token → Type 0
+NoSymbol none = Unit {0}
+NoSymbol (some x) = symbolName x ≡ none
 
 -- this very token stands first from an offset on, and the next offset is behind it; or another does, or none, at a place
 abbrev pub Exactly : List ℕ → ℕ → tokens.Token → Step → Type 0

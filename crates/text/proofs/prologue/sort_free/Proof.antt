@@ -1,30 +1,30 @@
+-- The tests are the definition's. Assumes nothing.
+use mathlib.Core.Path.{sym, ap, ap₂, _∙_}
+use mathlib.Core.Bool.{Bool, true, false, not, _&&_, _||_}
+use Rattle.definitions.specs.Text.Ascii.{sameBytes}
+use Rattle.definitions.specs.Text.Grammar.{BOOL, solversOwn}
 use borrow.Author.Needs.{needs}
 use Rattle.text.proofs.prologue.sort_free.Statement.{statement}
 use Rattle.text.proofs.prologue.sort_free.Tie as tie
-use Rattle.text.proofs.prologue.sort_free.Reads as reads
-use Rattle.text.proofs.prologue.sort_free.Lts as lts
-use Rattle.text.proofs.bytes.same.Reads as same-reads
-use Rattle.text.proofs.declared.solvers_own.Reads as solvers-own-reads
 
--- src/prologue.rt:39:19
 slice-aggregate-same : tie.Need-slice-aggregate-same
 slice-aggregate-same c = search needs
 
--- src/prologue.rt:39:8
 same-requires : tie.Need-same-requires
 same-requires c κs = search needs
 
--- src/prologue.rt:40:9
 returns : tie.Need-returns
-returns c = ?
+returns c = let name = c .before .before .before .before .args .name .now in sym (ap (λ (b : Bool). not (b || false) && not (solversOwn name)) (sym (c .before .same .ensures) ∙ c .if1 .taken))
 
--- src/prologue.rt:42:6
 solvers-own-requires : tie.Need-solvers-own-requires
 solvers-own-requires c κs = search needs
 
--- src/prologue.rt:36:1
 returns-2 : tie.Need-returns-2
-returns-2 c = ?
+returns-2 c =
+    let else = c .before in
+    let name = else .before .before .before .before .args .name .now in
+    ap not (c .solvers-own .ensures)
+    ∙ sym (ap (λ (b : Bool). not (b || false) && not (solversOwn name)) (sym (else .before .same .ensures) ∙ else .if1 .left))
 
 pub sort-free-spec : {M : Type 1} → statement M
 sort-free-spec =
