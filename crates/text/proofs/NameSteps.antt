@@ -8,9 +8,10 @@ use mathlib.Core.Option.{Option, none, some}
 use Rattle.definitions.specs.Text.Tokens.{opening, closing, nought, symbol}
 use Rattle.definitions.specs.Text.Tokens as tokens
 use Rattle.definitions.specs.Text.Grammar.{Command, symbolsIn, newFunction, newSort}
-use Rattle.definitions.specs.Text.Reader.{State, exact, naming, commanding, declaring, taking, start, goes, each, unlessNot, named, newNamed, step}
+use Rattle.definitions.specs.Text.Reader.{State, exact, naming, commanding, taking, start, goes, each, unlessNot, named, newNamed, step}
 use Rattle.text.specs.Lexing.{lexemeRead, Lexed}
 use Rattle.text.specs.Reading.{Reached, WrongAt, NoSymbol}
+use Rattle.text.specs.Functions.{inDeclaring}
 use Rattle.text.specs.declared.tokens.Token.{Token}
 use Rattle.text.proofs.ReachLaws.{stepped, moves, stuck, wrong-here}
 
@@ -37,10 +38,7 @@ module _ (text : List ℕ) (at : ℕ) (r : Reached text (goes start naming) at) 
       go none q = refl
       go (some x) q = ap (named (goes start naming)) q
 
--- after declare-fun
-abbrev pub inDeclaring : List ℕ → List Command → State
-inDeclaring sn cs = record { sortName = sn; commands = cs; stage = declaring }
-
+-- a function's name is read
 abbrev pub nameRead : List ℕ → List Command → List ℕ → State
 nameRead sn cs name = record { sortName = sn; commands = cs; stage = exact opening (taking name 0) }
 

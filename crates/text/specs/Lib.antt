@@ -11,3 +11,4 @@ pub mod Commands
 pub mod Terms
 pub mod Ranks
 pub mod Scripts
+pub mod Functions

@@ -3,6 +3,7 @@ pub mod bytes;
 pub mod declarations;
 pub mod declared;
 pub mod exact;
+pub mod functions;
 pub mod heads;
 pub mod lists;
 pub mod nodes;
