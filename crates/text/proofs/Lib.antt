@@ -3,6 +3,7 @@ pub mod ByteLaws
 pub mod DeclarationLaws
 pub mod DeclaredLaws
 pub mod HeadLaws
+pub mod HeadedLaws
 pub mod LexLaws
 pub mod LexemeLaws
 pub mod ListLaws

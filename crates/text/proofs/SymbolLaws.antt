@@ -28,7 +28,7 @@ use Rattle.text.specs.Lexing.{nameOf, lexemeRead, tokensAt, Lexed}
 use Rattle.text.specs.Reading.{isToken, Reached}
 use Rattle.text.specs.Named.{coreOf, resolve}
 use Rattle.text.specs.Declarations.{declaredHere, declaredIn, plainAt, firstName, ByteIs}
-use Rattle.text.specs.Symbols.{symbolByte, byteOn, OnShelf, ShelfSound, atCommand, Symbols, nameOn, FoundOn, KnownIn, KnownIs, KnownSmall}
+use Rattle.text.specs.Symbols.{symbolByte, byteOn, OnShelf, ShelfSound, atCommand, Symbols, nameOn, FoundOn, KnownIn, KnownIs, KnownSmall, Few}
 use Rattle.text.specs.declared.declared.Declared.{Declared}
 use Rattle.text.specs.declared.declared.Known.{Known}
 use Rattle.text.specs.declared.tokens.Token.{Token}
@@ -160,7 +160,7 @@ shelf-fewer text shelf held count h s =
     }
 
 -- right commands declare symbols of at most three arguments
-right-small : (sig : List Symbol) (cs : List Command) → commandsRight sig cs ≡ true → (k : ℕ) → symbolAt (symbolsIn cs) k .arity ≤ 3
+right-small : (sig : List Symbol) (cs : List Command) → commandsRight sig cs ≡ true → Few (symbolsIn cs)
 right-small sig [] e k = omega arith
 right-small sig (declare y ∷ cs) e zero =
     let one = and-left (commandRight sig (declare y)) (commandsRight (after sig (declare y)) cs) e in
@@ -177,6 +177,9 @@ module _ (text sn : List ℕ) (cs : List Command) (at : ℕ) (r : Reached text (
 
   pub reached-ready : Ready sn cs
   reached-ready = kept .0
+
+  pub symbols-few : Few (symbolsIn cs)
+  symbols-few = right-small [] cs (kept .0 .1)
 
   tokens-are : plainAt text 0 ≡ base sn cs ++ plainAt text at
   unfolding tokensAt tokensOf
@@ -210,7 +213,7 @@ module _ (text shelf : List ℕ) (d : Declared) (sn : List ℕ) (cs : List Comma
           ∙ declared-first text sn cs (d .command) (s .reached) (d .count) (sym (s .shelved .counted))
 
       small : (r : Known) → KnownIn sig name r → KnownIs sig name r
-      small (Known.Symbol number byte) (e, _, b) = (e, b (right-small [] cs (reached-ready text sn cs (d .command) (s .reached) .1) number))
+      small (Known.Symbol number byte) (e, _, b) = (e, b (symbols-few text sn cs (d .command) (s .reached) number))
       small Known.Nothing e = e
 
   module _ (held : ℕ) (h : held ≤ d .count) (l : 3 * held ≤ length shelf) where

@@ -5,7 +5,7 @@ use mathlib.Core.Bool.{Bool, true, false}
 use mathlib.Core.List.{List}
 use mathlib.Core.Option.{Option, none, some}
 use lib.ListN.{length, getD}
-use Rattle.definitions.specs.Problem.Ops.{Sort, term, formula}
+use Rattle.definitions.specs.Problem.Ops.{Sort, term, formula, sameSort}
 use Rattle.definitions.specs.Text.Ascii.{sameBytes}
 use Rattle.definitions.specs.Text.Tokens.{opening}
 use Rattle.definitions.specs.Text.Grammar.{
@@ -31,10 +31,11 @@ use Rattle.definitions.specs.Text.Nodes.{byteOf}
 use Rattle.problem.specs.declared.bytes.Found.{Found}
 use Rattle.text.specs.Lexing.{between, nameOf, NameWithin}
 use Rattle.text.specs.Reading.{Reached}
-use Rattle.text.specs.Named.{resolve}
+use Rattle.text.specs.Named.{resolve, bareCore, bracketedCore, standsBare, standsHead, declaredBy}
 use Rattle.text.specs.declared.declared.Declared.{Declared}
 use Rattle.text.specs.declared.declared.Known.{Known}
 use Rattle.text.specs.declared.heads.Head.{Head}
+use Rattle.text.specs.declared.heads.Headed.{Headed}
 
 abbrev pub sortIs : Bool → Sort
 sortIs true = formula
@@ -143,3 +144,65 @@ pub record Finds (text shelf : List ℕ) (d : Declared) (name : List ℕ) (r : K
 -- a name may be declared
 abbrev pub Frees : List ℕ → List ℕ → Declared → List ℕ → Bool → Type 0
 Frees text shelf d name r = (sn : List ℕ) (cs : List Command) → Symbols text sn cs shelf d → r ≡ newFunction (symbolsIn cs) name
+
+-- the head of a name, if it gives one
+abbrev pub HeadedIs : List Symbol → Option grammar.Head → Headed → Type 0
+HeadedIs sig o (Headed.Head h) = (o ≡ some (headRead h)) × ArityIs sig h
+HeadedIs sig o Headed.Nothing = o ≡ none
+
+-- whatever is read, no head wants more than three arguments by its arity
+abbrev pub HeadSmall : Head → Type 0
+HeadSmall (Head.Applied number f arity) = arity ≤ 3
+HeadSmall (Head.Choice f) = Unit {0}
+HeadSmall Head.Equals = Unit {0}
+HeadSmall Head.Not = Unit {0}
+HeadSmall Head.And = Unit {0}
+HeadSmall Head.Or = Unit {0}
+HeadSmall Head.Implies = Unit {0}
+HeadSmall Head.True = Unit {0}
+HeadSmall Head.False = Unit {0}
+
+abbrev pub HeadedSmall : Headed → Type 0
+HeadedSmall (Headed.Head h) = HeadSmall h
+HeadedSmall Headed.Nothing = Unit {0}
+
+-- the head that f names among the symbols of a text that is read so far
+pub record Heads (f : List Symbol → Option grammar.Head) (text shelf : List ℕ) (d : Declared) (r : Headed) : Type 0 where
+  pub head : (sn : List ℕ) (cs : List Command) → Symbols text sn cs shelf d → HeadedIs (symbolsIn cs) (f (symbolsIn cs)) r
+  pub small : HeadedSmall r
+
+-- a symbol's arity, if its result is this sort
+abbrev pub ArityOf : ℕ → Sort → Sort → Found → Type 0
+ArityOf arity result s (Found.At n) = (sameSort result s ≡ true) × (n ≡ arity)
+ArityOf arity result s Found.Nothing = sameSort result s ≡ false
+
+abbrev pub FoundSmall : Found → Type 0
+FoundSmall (Found.At n) = n ≤ 3
+FoundSmall Found.Nothing = Unit {0}
+
+pub record ArityIn (byte : ℕ) (s : Sort) (r : Found) : Type 0 where
+  pub tells : (arity : ℕ) (result : Sort) → arity ≤ 3 → byte ≡ byteOf arity result → ArityOf arity result s r
+  pub small : FoundSmall r
+
+-- what Core's k-th name gives, and what a declared symbol gives
+pub record CoreBare (s : Sort) (k : ℕ) (r : Headed) : Type 0 where
+  pub head : (sig : List Symbol) → HeadedIs sig (bareCore s k) r
+  pub small : HeadedSmall r
+
+pub record CoreBracketed (s : Sort) (inhabits : Bool) (k : ℕ) (r : Headed) : Type 0 where
+  pub head : (sig : List Symbol) → inhabits ≡ inhabited sig term → HeadedIs sig (bracketedCore sig s k) r
+  pub small : HeadedSmall r
+
+-- each symbol takes at most three arguments
+abbrev pub Few : List Symbol → Type 0
+Few sig = (k : ℕ) → symbolAt sig k .arity ≤ 3
+
+pub record KnownBare (known : Known) (s : Sort) (r : Headed) : Type 0 where
+  pub head : (sig : List Symbol) (name : List ℕ) → Few sig → KnownIs sig name known
+      → HeadedIs sig (declaredBy sig (standsBare s) s (resolve sig name)) r
+  pub small : HeadedSmall r
+
+pub record KnownBracketed (known : Known) (s : Sort) (inhabits : Bool) (r : Headed) : Type 0 where
+  pub head : (sig : List Symbol) (name : List ℕ) → Few sig → KnownIs sig name known → inhabits ≡ inhabited sig term
+      → HeadedIs sig (declaredBy sig (standsHead sig s) s (resolve sig name)) r
+  pub small : HeadedSmall r
