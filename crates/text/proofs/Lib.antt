@@ -14,3 +14,4 @@ pub mod Rows
 pub mod Streams
 pub mod SymbolLaws
 pub mod TokenLaws
+pub mod WantedLaws

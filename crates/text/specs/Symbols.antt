@@ -1,10 +1,11 @@
 -- The declared symbols as the code keeps them, and the heads that it finds (02, E1). Assumes nothing.
 use mathlib.Core.Path.{_≡_}
-use Prim.Native.Nat.{ℕ, _+_, _*_, _≤_, _<_}
+use Prim.Native.Nat.{ℕ, zero, suc, min, _+_, _*_, _≤_, _<_}
 use mathlib.Core.Bool.{Bool, true, false}
 use mathlib.Core.List.{List}
 use mathlib.Core.Option.{Option, none, some}
 use lib.ListN.{length, getD}
+use lib.Dec.{leb}
 use Rattle.definitions.specs.Problem.Ops.{Sort, term, formula, sameSort}
 use Rattle.definitions.specs.Text.Ascii.{sameBytes}
 use Rattle.definitions.specs.Text.Tokens.{opening}
@@ -14,6 +15,10 @@ use Rattle.definitions.specs.Text.Grammar.{
   symbolsIn,
   Command,
   newFunction,
+  wantedBy,
+  next,
+  left,
+  ready,
   declared,
   ite,
   equals,
@@ -36,6 +41,7 @@ use Rattle.text.specs.declared.declared.Declared.{Declared}
 use Rattle.text.specs.declared.declared.Known.{Known}
 use Rattle.text.specs.declared.heads.Head.{Head}
 use Rattle.text.specs.declared.heads.Headed.{Headed}
+use Rattle.text.specs.declared.heads.Wanted.{Wanted}
 
 abbrev pub sortIs : Bool → Sort
 sortIs true = formula
@@ -206,3 +212,37 @@ pub record KnownBracketed (known : Known) (s : Sort) (inhabits : Bool) (r : Head
   pub head : (sig : List Symbol) (name : List ℕ) → Few sig → KnownIs sig name known → inhabits ≡ inhabited sig term
       → HeadedIs sig (declaredBy sig (standsHead sig s) s (resolve sig name)) r
   pub small : HeadedSmall r
+
+-- what is wanted after so many arguments
+abbrev pub leftAfter : ℕ → grammar.Wanted → grammar.Wanted
+leftAfter zero w = w
+leftAfter (suc n) w = leftAfter n (left w)
+
+-- how many must come
+abbrev pub leastOf : Head → ℕ
+leastOf (Head.Applied number f arity) = arity
+leastOf (Head.Choice f) = 3
+leastOf Head.Equals = 2
+leastOf Head.Not = 1
+leastOf Head.And = 2
+leastOf Head.Or = 2
+leastOf Head.Implies = 2
+leastOf Head.True = 0
+leastOf Head.False = 0
+
+abbrev pub wantedRead : Wanted → Option Sort
+wantedRead Wanted.Term = some term
+wantedRead Wanted.Formula = some formula
+wantedRead Wanted.Nothing = none
+
+abbrev pub wantedBelow : Sort → ℕ → ℕ → Option Sort
+wantedBelow s seen arity = elim (leb arity seen) [ true ↦ none | false ↦ some s ]
+
+-- arguments are counted up to three
+abbrev pub Readies : Head → ℕ → Bool → Type 0
+Readies h seen r =
+    (sig : List Symbol) → ArityIs sig h → (n : ℕ) → seen ≡ min n 3 → r ≡ ready (leftAfter n (wantedBy sig (headRead h)))
+
+abbrev pub Wants : Head → ℕ → Wanted → Type 0
+Wants h seen r =
+    (sig : List Symbol) → ArityIs sig h → (n : ℕ) → seen ≡ min n 3 → wantedRead r ≡ next (leftAfter n (wantedBy sig (headRead h)))

@@ -1,9 +1,10 @@
 // Which head a name gives, where a term of a sort is wanted; and what arguments a head wants.
+ghost use mathlib.Core.Path.{_≡_};
 ghost use Prim.Native.Nat.{_<_};
 ghost use Rattle.definitions.specs.Text.Tokens.{symbol};
 ghost use Rattle.definitions.specs.Text.Heads as names;
 ghost use Rattle.text.specs.Lexing.{nameOf, NameWithin};
-ghost use Rattle.text.specs.Symbols.{sortIs, DeclaredSound, KnownSmall, ArityIn, CoreBare, CoreBracketed, KnownBare, KnownBracketed, Heads};
+ghost use Rattle.text.specs.Symbols.{sortIs, DeclaredSound, KnownSmall, ArityIn, CoreBare, CoreBracketed, KnownBare, KnownBracketed, Heads, leastOf, Readies, wantedRead, wantedBelow, Wants};
 use crate::declared::Declared;
 use crate::declared::Known;
 use crate::declared::find;
@@ -189,4 +190,72 @@ pub fn bracketed(
     }
     let known = find(text, shelf, declared, name);
     bracketed_known(known, formula, inhabited)
+}
+
+// How many arguments must come.
+fn least(head: Head) -> usize
+    ensures { λ r. ⌜ r ≡ leastOf head ⌝ }
+{
+    match head {
+        Head::Applied {
+            number: _,
+            formula: _,
+            arity,
+        } => arity,
+        Head::Choice { formula: _ } => 3,
+        Head::Equals => 2,
+        Head::Not => 1,
+        Head::And => 2,
+        Head::Or => 2,
+        Head::Implies => 2,
+        Head::True => 0,
+        Head::False => 0,
+    }
+}
+
+// None is left that must come, after so many arguments; three stand for any more.
+pub fn ready(head: Head, seen: usize) -> bool
+    ensures { λ r. ⌜ Readies head seen r ⌝ }
+{
+    let must = least(head);
+    must <= seen
+}
+
+// A sort is wanted where fewer than so many arguments are seen.
+fn below(seen: usize, arity: usize, formula: bool) -> Wanted
+    ensures { λ r. ⌜ wantedRead r ≡ wantedBelow (sortIs formula) seen arity ⌝ }
+{
+    if arity <= seen {
+        return Wanted::Nothing;
+    }
+    if formula {
+        return Wanted::Formula;
+    }
+    Wanted::Term
+}
+
+// What may come next, after so many arguments; three stand for any more.
+pub fn wants(head: Head, seen: usize) -> Wanted
+    ensures { λ r. ⌜ Wants head seen r ⌝ }
+{
+    match head {
+        Head::Applied {
+            number: _,
+            formula: _,
+            arity,
+        } => below(seen, arity, false),
+        Head::Choice { formula } => {
+            if seen == 0 {
+                return Wanted::Formula;
+            }
+            below(seen, 3, formula)
+        }
+        Head::Equals => Wanted::Term,
+        Head::Not => below(seen, 1, true),
+        Head::And => Wanted::Formula,
+        Head::Or => Wanted::Formula,
+        Head::Implies => Wanted::Formula,
+        Head::True => Wanted::Nothing,
+        Head::False => Wanted::Nothing,
+    }
 }
