@@ -88,7 +88,11 @@ all-alike s m n =
 
 -- one or more after the first
 after-first : (s : Sort) (m n : ℕ) → wantedBelow s n m ≡ wantedBelow s (suc n) (suc m)
-after-first s m n = elim (split n m) [ inl h ↦ sym (below-some s n m h) ∙ below-some s (suc n) (suc m) (omega arith) | inr h ↦ sym (below-none s n m h) ∙ below-none s (suc n) (suc m) (omega arith) ]
+after-first s m n =
+    elim (split n m) [
+      | inl h ↦ sym (below-some s n m h) ∙ below-some s (suc n) (suc m) (omega arith)
+      | inr h ↦ sym (below-none s n m h) ∙ below-none s (suc n) (suc m) (omega arith)
+    ]
 
 two-more : (s : Sort) (n : ℕ) → nextOf (drop n (s ∷ s ∷ [])) (some s) ≡ some s
 two-more s zero = refl

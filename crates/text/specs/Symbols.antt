@@ -102,30 +102,6 @@ abbrev pub KnownIs : List Symbol → List ℕ → Known → Type 0
 KnownIs sig name (Known.Symbol number byte) = (resolve sig name ≡ some number) × (byte ≡ symbolByte (symbolAt sig number))
 KnownIs sig name Known.Nothing = resolve sig name ≡ none
 
--- the head that a head of the code stands for
-abbrev pub headRead : Head → grammar.Head
-headRead (Head.Applied number f arity) = declared (sortIs f) number
-headRead (Head.Choice f) = ite (sortIs f)
-headRead Head.Equals = equals
-headRead Head.Not = negation
-headRead Head.And = conjunction
-headRead Head.Or = disjunction
-headRead Head.Implies = implication
-headRead Head.True = verum
-headRead Head.False = falsum
-
--- with the arity that is declared
-abbrev pub ArityIs : List Symbol → Head → Type 0
-ArityIs sig (Head.Applied number f arity) = (arity ≡ symbolAt sig number .arity) × (arity ≤ 3)
-ArityIs sig (Head.Choice f) = Unit {0}
-ArityIs sig Head.Equals = Unit {0}
-ArityIs sig Head.Not = Unit {0}
-ArityIs sig Head.And = Unit {0}
-ArityIs sig Head.Or = Unit {0}
-ArityIs sig Head.Implies = Unit {0}
-ArityIs sig Head.True = Unit {0}
-ArityIs sig Head.False = Unit {0}
-
 -- the first place on the shelf that has a name
 abbrev pub FoundOn : List ℕ → List ℕ → ℕ → List ℕ → Found → Type 0
 FoundOn text shelf held name (Found.At i) =
@@ -150,6 +126,30 @@ pub record Finds (text shelf : List ℕ) (d : Declared) (name : List ℕ) (r : K
 -- a name may be declared
 abbrev pub Frees : List ℕ → List ℕ → Declared → List ℕ → Bool → Type 0
 Frees text shelf d name r = (sn : List ℕ) (cs : List Command) → Symbols text sn cs shelf d → r ≡ newFunction (symbolsIn cs) name
+
+-- the head that a head of the code stands for
+abbrev pub headRead : Head → grammar.Head
+headRead (Head.Applied number f arity) = declared (sortIs f) number
+headRead (Head.Choice f) = ite (sortIs f)
+headRead Head.Equals = equals
+headRead Head.Not = negation
+headRead Head.And = conjunction
+headRead Head.Or = disjunction
+headRead Head.Implies = implication
+headRead Head.True = verum
+headRead Head.False = falsum
+
+-- with the arity that is declared
+abbrev pub ArityIs : List Symbol → Head → Type 0
+ArityIs sig (Head.Applied number f arity) = (arity ≡ symbolAt sig number .arity) × (arity ≤ 3)
+ArityIs sig (Head.Choice f) = Unit {0}
+ArityIs sig Head.Equals = Unit {0}
+ArityIs sig Head.Not = Unit {0}
+ArityIs sig Head.And = Unit {0}
+ArityIs sig Head.Or = Unit {0}
+ArityIs sig Head.Implies = Unit {0}
+ArityIs sig Head.True = Unit {0}
+ArityIs sig Head.False = Unit {0}
 
 -- the head of a name, if it gives one
 abbrev pub HeadedIs : List Symbol → Option grammar.Head → Headed → Type 0

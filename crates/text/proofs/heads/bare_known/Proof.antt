@@ -40,7 +40,8 @@ returns-4 c =
     let arity = c .before .before in
     let counted = arity .before .before in
     let s = counted .before .before .before .before in
-    bare-constant (sortIs (s .args .formula)) _ _ _ (counted .before .before .known .given .1) _ (counted .arity-in .ensures) _ (arity .arity .given .1) (s .args .formula) refl (c .if1 .left)
+    bare-constant (sortIs (s .args .formula)) _ _ _ (counted .before .before .known .given .1) _ (counted .arity-in .ensures) _ (arity .arity .given .1)
+    (s .args .formula) refl (c .if1 .left)
 
 pub bare-known-spec : {M : Type 1} → statement M
 bare-known-spec =

@@ -47,7 +47,8 @@ returns-5 c =
     let arity = c .before .before .before in
     let counted = arity .before .before in
     let s = counted .before .before .before .before in
-    bracketed-arguments (sortIs (s .args .formula)) _ _ _ (counted .before .before .known .given .1) _ (counted .arity-in .ensures) _ (arity .arity .given .1) _ (s .args .formula) refl (c .before .if1 .left) (not-false _ (c .if2 .left))
+    bracketed-arguments (sortIs (s .args .formula)) _ _ _ (counted .before .before .known .given .1) _ (counted .arity-in .ensures) _ (arity .arity .given .1) _
+    (s .args .formula) refl (c .before .if1 .left) (not-false _ (c .if2 .left))
 
 pub bracketed-known-spec : {M : Type 1} → statement M
 bracketed-known-spec =
