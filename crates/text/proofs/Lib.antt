@@ -5,12 +5,14 @@ pub mod ByteTables
 pub mod DeclarationLaws
 pub mod DeclaredLaws
 pub mod HeadLaws
+pub mod HeadedLaws
 pub mod LexLaws
 pub mod LexemeLaws
 pub mod ListBelow
 pub mod ListLaws
 pub mod ListSteps
 pub mod NameLaws
+pub mod NameSteps
 pub mod RankSteps
 pub mod ReachLaws
 pub mod RowLaws
@@ -21,4 +23,4 @@ pub mod SymbolLaws
 pub mod TermRights
 pub mod TermSteps
 pub mod TokenLaws
-pub mod NameSteps
+pub mod WantedLaws

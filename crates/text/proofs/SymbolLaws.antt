@@ -28,7 +28,7 @@ use Rattle.text.specs.Lexing.{nameOf, lexemeRead, tokensAt, Lexed}
 use Rattle.text.specs.Reading.{isToken, Reached}
 use Rattle.text.specs.Named.{coreOf, resolve}
 use Rattle.text.specs.Declarations.{declaredHere, declaredIn, plainAt, firstName, ByteIs}
-use Rattle.text.specs.Symbols.{symbolByte, byteOn, OnShelf, ShelfSound, atCommand, Symbols, nameOn, FoundOn, KnownIn, KnownIs, KnownSmall}
+use Rattle.text.specs.Symbols.{symbolByte, byteOn, OnShelf, ShelfSound, atCommand, Symbols, nameOn, FoundOn, KnownIn, KnownIs, KnownSmall, Finds, Few}
 use Rattle.text.specs.declared.declared.Declared.{Declared}
 use Rattle.text.specs.declared.declared.Known.{Known}
 use Rattle.text.specs.declared.tokens.Token.{Token}
@@ -77,18 +77,18 @@ module _ (text sn : List ℕ) (count : ℕ) (name : List ℕ) (at number : ℕ) 
   abbrev all : List Symbol
   all = declaredIn sn (plainAt text 0)
 
-  abbrev some-of : List Symbol
-  some-of = take count all
+  abbrev counted : List Symbol
+  counted = take count all
 
   -- the scan ends with the text, or with the count
-  none-left : length some-of ≤ number → resolve some-of name ≡ none
-  none-left h = sym (s .search) ∙ fails-nowhere (other name) some-of number h
+  none-left : length counted ≤ number → resolve counted name ≡ none
+  none-left h = sym (s .search) ∙ fails-nowhere (other name) counted number h
 
-  pub scan-counted : count ≤ number → resolve some-of name ≡ none
+  pub scan-counted : count ≤ number → resolve counted name ≡ none
   scan-counted h = none-left (omega (arith, length-take count all))
 
   module _ (t : Token) (l : Lexed text at t) where
-    pub scan-ends : lexemeRead text (t .lexeme) ≡ none → resolve some-of name ≡ none
+    pub scan-ends : lexemeRead text (t .lexeme) ≡ none → resolve counted name ≡ none
     scan-ends e =
         let nothing : [] ≡ drop number all = ap (declaredIn sn) (sym (tokens-by text at t l e)) ∙ s .left in
         none-left (omega (arith, length-take count all, length-drop number all, ap length nothing))
@@ -121,22 +121,22 @@ module _ (text sn : List ℕ) (count : ℕ) (name : List ℕ) (at number : ℕ) 
           same-swap x DECLARE ∙ ap (isToken DECLARE) (sym (there .1)) ∙ e in
           sym (s .left) ∙ ap (declaredIn sn) (tokens-by text at t l (there .1)) ∙ declared-here sn x (plainAt text (t .next)) is
 
-      among : number < length some-of
+      among : number < length counted
       among = omega (arith, length-take count all, starts all number here (declaredIn sn (plainAt text (t .next))) all-on)
 
-      symbol-is : symbolAt some-of number ≡ here
+      symbol-is : symbolAt counted number ≡ here
       symbol-is = getD-take count all number noSymbol h ∙ first-is all number here (declaredIn sn (plainAt text (t .next))) all-on
 
-      told : {b : Bool} → b ≡ sameBytes name (firstName (plainAt text (t .next))) → other name (symbolAt some-of number) ≡ not b
+      told : {b : Bool} → b ≡ sameBytes name (firstName (plainAt text (t .next))) → other name (symbolAt counted number) ≡ not b
       told p =
           ap (other name) symbol-is
           ∙ ap (λ (n : List ℕ). not (sameBytes name n)) (name-here sn (plainAt text (t .next)))
           ∙ ap not (sym p)
 
       pub scan-finds : {b : Bool} → b ≡ sameBytes name (firstName (plainAt text (t .next))) → b ≡ true → (byte : ℕ)
-          → ByteIs sn (plainAt text (t .next)) byte → KnownIn some-of name (Known.Symbol number byte)
+          → ByteIs sn (plainAt text (t .next)) byte → KnownIn counted name (Known.Symbol number byte)
       scan-finds p q byte i = (
-        sym (s .search) ∙ fails-here (other name) some-of noSymbol number among (told p ∙ ap not q),
+        sym (s .search) ∙ fails-here (other name) counted noSymbol number among (told p ∙ ap not q),
         i .small,
         subst (λ (y : Symbol). y .arity ≤ 3 → byte ≡ symbolByte y) (sym symbol-is) (i .is),
       )
@@ -147,7 +147,7 @@ module _ (text sn : List ℕ) (count : ℕ) (name : List ℕ) (at number : ℕ) 
             inside = l .inside;
             few = omega arith;
             left = sym (rest-is all number here (declaredIn sn (plainAt text (t .next))) all-on);
-            search = sym (fails-later (other name) some-of noSymbol number among (told p ∙ ap not q)) ∙ s .search;
+            search = sym (fails-later (other name) counted noSymbol number among (told p ∙ ap not q)) ∙ s .search;
           }
 
 -- a shelf that is sound is sound for fewer symbols
@@ -160,7 +160,7 @@ shelf-fewer text shelf held count h s =
     }
 
 -- right commands declare symbols of at most three arguments
-right-small : (sig : List Symbol) (cs : List Command) → commandsRight sig cs ≡ true → (k : ℕ) → symbolAt (symbolsIn cs) k .arity ≤ 3
+right-small : (sig : List Symbol) (cs : List Command) → commandsRight sig cs ≡ true → Few (symbolsIn cs)
 right-small sig [] e k = omega arith
 right-small sig (declare y ∷ cs) e zero =
     let one = and-left (commandRight sig (declare y)) (commandsRight (after sig (declare y)) cs) e in
@@ -178,6 +178,9 @@ module _ (text sn : List ℕ) (cs : List Command) (at : ℕ) (r : Reached text (
   pub reached-ready : Ready sn cs
   reached-ready = kept .0
 
+  pub symbols-few : Few (symbolsIn cs)
+  symbols-few = right-small [] cs (kept .0 .1)
+
   tokens-are : plainAt text 0 ≡ base sn cs ++ plainAt text at
   unfolding tokensAt tokensOf
   tokens-are =
@@ -192,7 +195,7 @@ module _ (text sn : List ℕ) (cs : List Command) (at : ℕ) (r : Reached text (
       ∙ ap (take count) (declared-on sn (kept .0 .0) cs (plainAt text at))
       ∙ take-at (symbolsIn cs) (declaredIn sn (plainAt text at)) count e
 
-pub known-small : (sig : List Symbol) (name : List ℕ) (r : Known) → KnownIn sig name r → KnownSmall r
+known-small : (sig : List Symbol) (name : List ℕ) (r : Known) → KnownIn sig name r → KnownSmall r
 known-small sig name (Known.Symbol number byte) k = k .1
 known-small sig name Known.Nothing k = tt
 
@@ -201,7 +204,7 @@ module _ (text shelf : List ℕ) (d : Declared) (sn : List ℕ) (cs : List Comma
   abbrev sig : List Symbol
   sig = symbolsIn cs
 
-  pub text-known : (r : Known) → KnownIn (take (d .count) (declaredIn (nameOf text (d .sort)) (plainAt text 0))) name r → KnownIs sig name r
+  text-known : (r : Known) → KnownIn (take (d .count) (declaredIn (nameOf text (d .sort)) (plainAt text 0))) name r → KnownIs sig name r
   text-known r k = small r (subst (λ (ys : List Symbol). KnownIn ys name r) are k)
     where
       are : take (d .count) (declaredIn (nameOf text (d .sort)) (plainAt text 0)) ≡ sig
@@ -210,7 +213,7 @@ module _ (text shelf : List ℕ) (d : Declared) (sn : List ℕ) (cs : List Comma
           ∙ declared-first text sn cs (d .command) (s .reached) (d .count) (sym (s .shelved .counted))
 
       small : (r : Known) → KnownIn sig name r → KnownIs sig name r
-      small (Known.Symbol number byte) (e, _, b) = (e, b (right-small [] cs (reached-ready text sn cs (d .command) (s .reached) .1) number))
+      small (Known.Symbol number byte) (e, _, b) = (e, b (symbols-few text sn cs (d .command) (s .reached) number))
       small Known.Nothing e = e
 
   module _ (held : ℕ) (h : held ≤ d .count) (l : 3 * held ≤ length shelf) where
@@ -220,7 +223,7 @@ module _ (text shelf : List ℕ) (d : Declared) (sn : List ℕ) (cs : List Comma
     compared : (i : ℕ) → i < held → {b : Bool} → sameBytes name (nameOn text shelf i) ≡ b → other name (symbolAt sig i) ≡ not b
     compared i p e = ap (λ (n : List ℕ). not (sameBytes name n)) (sym (s .shelved .named i (on i p))) ∙ ap not e
 
-    pub shelf-known : (i : ℕ) → FoundOn text shelf held name (Found.At i) → KnownIs sig name (Known.Symbol i (byteOn shelf i))
+    shelf-known : (i : ℕ) → FoundOn text shelf held name (Found.At i) → KnownIs sig name (Known.Symbol i (byteOn shelf i))
     shelf-known i f = (
       failing-first (other name) sig noSymbol i .1
           (record {
@@ -231,7 +234,7 @@ module _ (text shelf : List ℕ) (d : Declared) (sn : List ℕ) (cs : List Comma
       s .shelved .typed i (on i (f .0)),
     )
 
-    pub shelf-none : d .count ≤ held → FoundOn text shelf held name Found.Nothing → resolve sig name ≡ none
+    shelf-none : d .count ≤ held → FoundOn text shelf held name Found.Nothing → resolve sig name ≡ none
     shelf-none p f = go (resolve sig name) refl
       where
         go : (o : Option ℕ) → resolve sig name ≡ o → o ≡ none
@@ -239,6 +242,24 @@ module _ (text shelf : List ℕ) (d : Declared) (sn : List ℕ) (cs : List Comma
         go (some k) e =
             let w = failing-first (other name) sig noSymbol k .0 e in
             absurd (false≢true (sym (w .wrong) ∙ compared k (omega (arith, w .within, s .shelved .counted)) (f k (omega (arith, w .within, s .shelved .counted)))))
+
+-- whatever is read
+module _ (text shelf : List ℕ) (d : Declared) (name : List ℕ) where
+  pub finds-in-text : (r : Known) → KnownIn (take (d .count) (declaredIn (nameOf text (d .sort)) (plainAt text 0))) name r
+      → Finds text shelf d name r
+  finds-in-text r k = record { known = λ sn cs s. text-known text shelf d sn cs s name r k; small = known-small _ name r k }
+
+  module _ (held : ℕ) (h : held ≤ d .count) (l : 3 * held ≤ length shelf) where
+    pub finds-on-shelf : (i : ℕ) → ShelfSound text shelf (d .count) → FoundOn text shelf held name (Found.At i)
+        → Finds text shelf d name (Known.Symbol i (byteOn shelf i))
+    finds-on-shelf i sound f =
+        record {
+          known = λ sn cs s. shelf-known text shelf d sn cs s name held h l i f;
+          small = sound .small i (omega (arith, f .0), omega (arith, f .0));
+        }
+
+    pub finds-nothing : d .count ≤ held → FoundOn text shelf held name Found.Nothing → Finds text shelf d name Known.Nothing
+    finds-nothing p f = record { known = λ sn cs s. shelf-none text shelf d sn cs s name held h l p f; small = tt }
 
 -- a name is free by three searches
 module _ (sig : List Symbol) (name : List ℕ) where

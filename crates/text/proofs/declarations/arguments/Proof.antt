@@ -30,7 +30,8 @@ returns c =
     let lexed = c .before .before in
     let head = lexed .before .before in
     let text = head .before .before .args .text .now in
-    counted-to text (head .before .before .args .from) (head .loop .at) (head .loop .arity) _ (head .loop .inv) (λ h. no-more text (head .loop .at) (lexed .next .result) (lexed .next .ensures) (c .before .match .keys2)) refl (c .skip .ensures)
+    counted-to text (head .before .before .args .from) (head .loop .at) (head .loop .arity) _ (head .loop .inv)
+    (λ h. no-more text (head .loop .at) (lexed .next .result) (lexed .next .ensures) (c .before .match .keys2)) refl (c .skip .ensures)
 
 add-arity : tie.Need-add-arity Inv-loop μ-loop
 add-arity c = omega arith

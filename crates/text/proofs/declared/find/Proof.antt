@@ -1,15 +1,19 @@
 -- The shelf is searched first, and where it does not have them all, the text. Both find the symbol that the commands declare. Assumes nothing.
 use mathlib.Core.Path.{subst}
-use Prim.Native.Nat.{_+_, _*_, _≤_}
+use Prim.Native.Nat.{ℕ, _+_, _*_, _≤_}
 use native.Mathlib.Omega.{arith}
+use mathlib.Core.List.{List}
 use lib.ListN.{length}
 use Rattle.problem.specs.declared.bytes.Found.{Found}
 use Rattle.text.specs.Lexing.{nameOf}
 use Rattle.text.specs.Symbols.{FoundOn}
-use Rattle.text.proofs.SymbolLaws.{shelf-fewer, shelf-known, shelf-none, text-known, known-small}
+use Rattle.text.proofs.SymbolLaws.{shelf-fewer, finds-in-text, finds-on-shelf, finds-nothing}
 use borrow.Author.Needs.{needs}
 use Rattle.text.proofs.declared.find.Statement.{statement}
 use Rattle.text.proofs.declared.find.Tie as tie
+
+abbrev name : tie.Start → List ℕ
+name s = nameOf (s .args .text .now) (s .args .name)
 
 -- the place that is found, on the shelf
 module _ (c : tie.After-known-told) where
@@ -19,10 +23,10 @@ module _ (c : tie.After-known-told) where
   abbrev start : tie.Start
   start = held .before .before .before
 
-  found : FoundOn (start .args .text .now) (start .args .shelf .now) (held .shelved .result) (nameOf (start .args .text .now) (start .args .name)) (Found.At (c .before .found .given .0 .0))
+  found : FoundOn (start .args .text .now) (start .args .shelf .now) (held .shelved .result) (name start) (Found.At (c .before .found .given .0 .0))
   found =
-      subst (FoundOn (start .args .text .now) (start .args .shelf .now) (held .shelved .result) (nameOf (start .args .text .now) (start .args .name)))
-      (c .before .found .given .1) (c .before .before .before .on-shelf .ensures)
+      subst (FoundOn (start .args .text .now) (start .args .shelf .now) (held .shelved .result) (name start)) (c .before .found .given .1)
+      (c .before .before .before .on-shelf .ensures)
 
   there : 3 * c .before .found .given .0 .0 + 3 ≤ length (start .args .shelf .now)
   there = omega (arith, found .0, held .shelved .ensures .1)
@@ -53,12 +57,9 @@ shared-slice-read-t13 c = omega (arith, there (c .before))
 returns : tie.Need-returns
 returns c =
     let known = c .before in
-    let held = known .before .before .before .before in
-    let s = held .before .before .before in
-    record {
-      known = λ sn cs y. shelf-known (s .args .text .now) (s .args .shelf .now) (s .args .declared) sn cs y (nameOf (s .args .text .now) (s .args .name)) (held .shelved .result) (held .shelved .ensures .0) (held .shelved .ensures .1) _ (found known);
-      small = s .pre .0 .sound .small _ (omega (arith, found known .0, held .shelved .ensures .0), there known);
-    }
+    let s = start known in
+    finds-on-shelf (s .args .text .now) (s .args .shelf .now) (s .args .declared) (name s) _ (held known .shelved .ensures .0) (held known .shelved .ensures .1) _
+    (s .pre .0 .sound) (found known)
 
 enum-told : tie.Need-enum-told
 enum-told c = search needs
@@ -68,24 +69,16 @@ find-in-text-requires c κs = search needs
 
 returns-2 : tie.Need-returns-2
 returns-2 c =
-    let held = c .before .before .before .before .before in
-    let s = held .before .before .before in
-    record {
-      known = λ sn cs y. text-known (s .args .text .now) (s .args .shelf .now) (s .args .declared) sn cs y (nameOf (s .args .text .now) (s .args .name)) (c .find-in-text .result) (c .find-in-text .ensures);
-      small = known-small _ _ (c .find-in-text .result) (c .find-in-text .ensures);
-    }
+    let s = c .before .before .before .before .before .before .before .before in
+    finds-in-text (s .args .text .now) (s .args .shelf .now) (s .args .declared) (name s) (c .find-in-text .result) (c .find-in-text .ensures)
 
 returns-3 : tie.Need-returns-3
 returns-3 c =
     let told = c .before in
     let held = told .before .before .before in
     let s = held .before .before .before in
-    let name = nameOf (s .args .text .now) (s .args .name) in
-    let none-on = subst (FoundOn (s .args .text .now) (s .args .shelf .now) (held .shelved .result) name) (told .enum-told .given .1) (told .before .before .on-shelf .ensures) in
-    record {
-      known = λ sn cs y. shelf-none (s .args .text .now) (s .args .shelf .now) (s .args .declared) sn cs y name (held .shelved .result) (held .shelved .ensures .0) (held .shelved .ensures .1) (omega arith) none-on;
-      small = tt;
-    }
+    let none = subst (FoundOn (s .args .text .now) (s .args .shelf .now) (held .shelved .result) (name s)) (told .enum-told .given .1) (told .before .before .on-shelf .ensures) in
+    finds-nothing (s .args .text .now) (s .args .shelf .now) (s .args .declared) (name s) _ (held .shelved .ensures .0) (held .shelved .ensures .1) (omega arith) none
 
 pub find-spec : {M : Type 1} → statement M
 find-spec =

@@ -26,7 +26,8 @@ module _ (c : tie.At-match-keys2 Inv-loop μ-loop) where
   onward : (head .loop .at < c .before .next .result .next) × (c .before .next .result .next ≤ length (head .before .before .before .args .text .now))
   onward =
       let t = c .before .next .result in (
-        goes-on (head .before .before .before .args .text .now) (head .loop .at) t (t .lexeme) (c .before .next .ensures .fits) (some-token (head .before .before .before .args .text .now) (t .lexeme) (c .match .keys2) .1),
+        goes-on (head .before .before .before .args .text .now) (head .loop .at) t (t .lexeme) (c .before .next .ensures .fits)
+            (some-token (head .before .before .before .args .text .now) (t .lexeme) (c .match .keys2) .1),
         c .before .next .ensures .inside,
       )
 
@@ -68,8 +69,8 @@ returns-2 c =
     let told = c .before .before in
     let else = told .before in
     let some = else .before .before in
-    scan-finds _ _ _ _ _ _ (head some .loop .inv) (some .before .next .result) (some .before .next .ensures) (some .match .keys2) (sym (else .before .is-declaring .ensures) ∙ not-false _ (else .if1 .left)) (omega arith)
-    (told .declares .ensures) (c .before .if2 .taken) _ (c .byte-at .ensures)
+    scan-finds _ _ _ _ _ _ (head some .loop .inv) (some .before .next .result) (some .before .next .ensures) (some .match .keys2)
+    (sym (else .before .is-declaring .ensures) ∙ not-false _ (else .if1 .left)) (omega arith) (told .declares .ensures) (c .before .if2 .taken) _ (c .byte-at .ensures)
 
 add-number : tie.Need-add-number Inv-loop μ-loop
 add-number c = omega arith
@@ -82,8 +83,8 @@ loop-again-2 c =
     let told = c .before in
     let else = told .before in
     let some = else .before .before in
-    scan-later _ _ _ _ _ _ (head some .loop .inv) (some .before .next .result) (some .before .next .ensures) (some .match .keys2) (sym (else .before .is-declaring .ensures) ∙ not-false _ (else .if1 .left)) (omega arith)
-    (told .declares .ensures) (c .if2 .left)
+    scan-later _ _ _ _ _ _ (head some .loop .inv) (some .before .next .result) (some .before .next .ensures) (some .match .keys2)
+    (sym (else .before .is-declaring .ensures) ∙ not-false _ (else .if1 .left)) (omega arith) (told .declares .ensures) (c .if2 .left)
 
 returns-3 : tie.Need-returns-3 Inv-loop μ-loop
 returns-3 c = scan-counted _ _ _ _ _ _ (c .before .loop .inv) (omega arith)
