@@ -1,4 +1,4 @@
-pub mod Arguments
+pub mod ArgumentLaws
 pub mod AskLaws
 pub mod ByteLaws
 pub mod ByteTables

@@ -12,3 +12,4 @@ pub mod Terms
 pub mod Ranks
 pub mod Scripts
 pub mod Functions
+pub mod Following

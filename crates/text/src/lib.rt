@@ -1,4 +1,5 @@
 // Jobs in solver text: a text of the subset of SMT-LIB 2.6 that docs/TEXT.md describes becomes a problem.
+pub mod arguments;
 pub mod bytes;
 pub mod declarations;
 pub mod declared;
