@@ -24,3 +24,4 @@ pub mod TermRights
 pub mod TermSteps
 pub mod TokenLaws
 pub mod WantedLaws
+pub mod TermLaws

@@ -6,7 +6,7 @@ use mathlib.Core.List.{List, _++_}
 use mathlib.Core.Option.{some}
 use lib.ListN.{length}
 use Rattle.definitions.specs.Problem.Node as table
-use Rattle.definitions.specs.Text.Tokens.{closing}
+use Rattle.definitions.specs.Text.Tokens.{opening, closing}
 use Rattle.definitions.specs.Text.Grammar.{Symbol, Terms, Command, symbolsIn, Wanted, wantedBy, sortOfHead, next, left, headRight, termsRight}
 use Rattle.definitions.specs.Text.Grammar as grammar
 use Rattle.definitions.specs.Text.Reader.{Opened, State, inside, put, scriptRead}
@@ -18,10 +18,10 @@ use Rattle.definitions.specs.declared.Refusal.{Refusal}
 use Rattle.theorems.specs.Origins.{NoTwins}
 use Rattle.theorems.proofs.Text.Meant.Shared.{Earlier}
 use Rattle.theorems.proofs.Text.Meant.Laying.{Full}
-use Rattle.text.specs.Lexing.{lexemeRead, Lexed}
+use Rattle.text.specs.Lexing.{lexemeRead, LexemeFits, Lexed}
 use Rattle.text.specs.Reading.{Reached, isToken}
-use Rattle.text.specs.Symbols.{sortIs, Symbols}
-use Rattle.text.specs.Laying.{tableIn, Performs}
+use Rattle.text.specs.Symbols.{sortIs, Symbols, DeclaredSound}
+use Rattle.text.specs.Laying.{tableIn, TableFits, Performs}
 use Rattle.text.specs.Lists.{kept, noRow, arguments, awaiting, Counted}
 use Rattle.text.specs.Rowing.{RowIs}
 use Rattle.text.specs.declared.tokens.Token.{Token}
@@ -76,6 +76,13 @@ abbrev pub TermSound : List ℕ → ℕ → Term → Type 0
 TermSound text from (Term.Read at r) = (from ≤ at) × (at ≤ length text) × (r .number < 256) × (r .laying .count ≤ 256)
 TermSound text from (Term.Refused refusal) = Unit {0}
 
+-- what is asked of every call: offsets lie within the text, and the table fits
+pub record TermAsked (text shelf : List ℕ) (d : Declared) (t : Token) (nodes : List ℕ) (l : Laying) : Type 0 where
+  pub declared-sound : DeclaredSound text shelf d
+  pub token-inside : t .next ≤ length text
+  pub lexeme-fits : LexemeFits text (t .lexeme)
+  pub table-fits : TableFits nodes (l .count)
+
 pub record ReadsTerm (text shelf : List ℕ) (d : Declared) (t : Token) (formula : Bool) (levels : ℕ) (nodes : List ℕ) (l : Laying) (r : Term) (nodes′ : List ℕ) : Type 0 where
   pub sound : TermSound text (t .next) r
   pub says : (sn : List ℕ) (cs : List Command) (w : Wanted) (row : Terms) (outer : List Opened) (at : ℕ)
@@ -98,3 +105,9 @@ pub record ListReady (sig : List Symbol) (h : grammar.Head) (t : List table.Node
   pub row-so : full ≡ false → l .over ≡ false → RowIs (awaiting h xs t .row) row pending
   pub table-so : full ≡ false → l .over ≡ false → awaiting h xs t .table ≡ tableIn nodes (l .count)
   pub over-so : full ≡ false → l .over ≡ true → (x : Tree) → TooLongWith sig h t (snoc xs x)
+
+-- a term with no bracket, at any level
+pub record ReadsBare (text shelf : List ℕ) (d : Declared) (t : Token) (formula : Bool) (nodes : List ℕ) (l : Laying) (r : Term) (nodes′ : List ℕ) : Type 0 where
+  pub sound : TermSound text (t .next) r
+  pub says : (levels : ℕ) → isToken opening (lexemeRead text (t .lexeme)) ≡ false → (sn : List ℕ) (cs : List Command) (w : Wanted) (row : Terms) (outer : List Opened) (at : ℕ)
+      → TermWanted text sn cs shelf d w row outer at t formula levels nodes l → TermSays text sn cs w row outer formula nodes l r nodes′
