@@ -2,10 +2,9 @@
 -- definition lays it, or that the table has no room for the list whatever follows. Assumes nothing.
 use mathlib.Core.Path.{_≡_, refl, sym, ap, _∙_, subst}
 use Prim.Native.Nat.{ℕ, _≤_, _<_}
-use native.Mathlib.Omega.{arith}
-use mathlib.Core.Bool.{Bool, true, false, true≢false, false≢true}
+use mathlib.Core.Bool.{Bool, true, false, true≢false}
 use mathlib.Core.List.{List, [], _∷_, _++_, append-assoc, append-nil}
-use mathlib.Core.Logic.{_⊎_, inl, inr}
+use mathlib.Core.Logic.{inl, inr}
 use lib.ListN.{length}
 use Rattle.definitions.specs.Lists.{snoc}
 use Rattle.definitions.specs.Problem.Node as table
@@ -13,7 +12,7 @@ use Rattle.definitions.specs.Text.Grammar.{Symbol, Head}
 use Rattle.definitions.specs.Text.Nodes.{Tree, Laid, laid, lay, headTree, symbolBytes}
 use Rattle.theorems.specs.Origins.{NoTwins}
 use Rattle.theorems.proofs.Text.Meant.Shared.{Earlier}
-use Rattle.theorems.proofs.Text.Meant.Laying.{Full, AllFull, AllPresent}
+use Rattle.theorems.proofs.Text.Meant.Laying.{Full}
 use Rattle.text.specs.Lists.{Kept, kept, noRow, prepared, added, ended, arguments, awaiting, Counted}
 use Rattle.text.specs.Lists as lists
 use Rattle.text.specs.Laying.{tableIn, Performs}
@@ -23,7 +22,6 @@ use Rattle.text.specs.declared.lists.Row.{Row}
 use Rattle.text.specs.declared.lists.Listed.{Listed}
 use Rattle.text.specs.declared.nodes.Laying.{Laying}
 use Rattle.text.specs.declared.nodes.Asked.{Asked}
-use Rattle.text.proofs.ListSteps.{Grows, grows-length}
 use Rattle.text.proofs.ListLaws.{list-laid, too-many, too-many-prepared, too-many-argument}
 use Rattle.text.proofs.ListBelow.{arguments-snoc, too-waiting}
 

@@ -25,3 +25,4 @@ pub mod TermSteps
 pub mod TokenLaws
 pub mod WantedLaws
 pub mod TermLaws
+pub mod TermLoops

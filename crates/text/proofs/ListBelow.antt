@@ -21,7 +21,8 @@ use Rattle.definitions.specs.Text.Grammar.{
   falsum,
 }
 use Rattle.definitions.specs.Text.Nodes.{Tree, headTree, Laid, laid, ask, lay}
-use Rattle.text.specs.Lists.{Row,
+use Rattle.text.specs.Lists.{
+  Row,
   Kept,
   kept,
   noRow,
@@ -36,7 +37,9 @@ use Rattle.text.specs.Lists.{Row,
   joins,
   added,
   argument,
-  arguments, awaiting}
+  arguments,
+  awaiting,
+}
 use Rattle.theorems.specs.Origins.{NoTwins}
 use Rattle.theorems.proofs.Laws.Ops.{AllBelow}
 use Rattle.theorems.proofs.Text.Meant.Shared.{Earlier, ask-given, ask-earlier}

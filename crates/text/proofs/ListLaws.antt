@@ -20,7 +20,8 @@ use Rattle.definitions.specs.Text.Grammar.{
   falsum,
 }
 use Rattle.definitions.specs.Text.Nodes.{Tree, over3, pair, notTree, leftward, equations, rightward, headTree, Laid, laid, ask, lay}
-use Rattle.text.specs.Lists.{Row,
+use Rattle.text.specs.Lists.{
+  Row,
   Kept,
   kept,
   noRow,
@@ -37,7 +38,9 @@ use Rattle.text.specs.Lists.{Row,
   ended,
   argument,
   arguments,
-  listLaid, Counted}
+  listLaid,
+  Counted,
+}
 use Rattle.theorems.specs.Origins.{NoTwins}
 use Rattle.theorems.proofs.Text.Meant.Shared.{Earlier, ask-twins}
 use Rattle.theorems.proofs.Text.Meant.Laying.{Present, AllPresent, Full, lay-twins}

@@ -21,6 +21,7 @@ use Rattle.text.specs.Lexing.{lexemeRead, Lexed}
 use Rattle.text.specs.Reading.{Reached, WrongAt, isToken}
 use Rattle.theorems.proofs.Laws.Tests.{eqb-swap}
 use Rattle.text.specs.Symbols.{atCommand}
+use Rattle.text.specs.Following.{NoHead}
 use Rattle.text.specs.Terms.{inList}
 use Rattle.text.specs.declared.tokens.Token.{Token}
 use Rattle.text.proofs.ReachLaws.{stepped, moves, stuck, deep, wrong-here}
@@ -143,14 +144,9 @@ module _ (text sn : List ℕ) (cs : List Command) (s : Sort) (w : Wanted) (row :
       → Reached text (inList sn cs (wantedBy (symbolsIn cs) h) end (opened h ∷ outer)) (t .next)
   head-taken x h e b k = moves text (atHead sn cs s w row outer) at r t l x _ e (headed-by x b) (omega arith)
 
-  -- no token, or one that names no head
-  abbrev NoHead : Option tokens.Token → Type 0
-  NoHead none = Unit {0}
-  NoHead (some x) = bracketed (symbolsIn cs) s x ≡ none
-
-  pub head-wrong : NoHead (lexemeRead text (t .lexeme)) → WrongAt text (t .place)
+  pub head-wrong : NoHead (symbolsIn cs) s (lexemeRead text (t .lexeme)) → WrongAt text (t .place)
   head-wrong f = wrong-here text (atHead sn cs s w row outer) at r t l (go (lexemeRead text (t .lexeme)) f) refl
     where
-      go : (o : Option tokens.Token) → NoHead o → stepped (atHead sn cs s w row outer) o ≡ none
+      go : (o : Option tokens.Token) → NoHead (symbolsIn cs) s o → stepped (atHead sn cs s w row outer) o ≡ none
       go none q = refl
       go (some x) q = headed-by x q

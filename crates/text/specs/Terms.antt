@@ -1,13 +1,13 @@
 -- What reading one term does: to the state of the definition's pass, and to the table of nodes (02, E1). Assumes nothing.
 use mathlib.Core.Path.{_≡_}
-use Prim.Native.Nat.{ℕ, _+_, _≤_, _<_}
+use Prim.Native.Nat.{ℕ, min, _+_, _≤_, _<_}
 use mathlib.Core.Bool.{Bool, true, false}
-use mathlib.Core.List.{List, _++_}
+use mathlib.Core.List.{List, _∷_, _++_}
 use mathlib.Core.Option.{some}
 use lib.ListN.{length}
 use Rattle.definitions.specs.Problem.Node as table
 use Rattle.definitions.specs.Text.Tokens.{opening, closing}
-use Rattle.definitions.specs.Text.Grammar.{Symbol, Terms, Command, symbolsIn, Wanted, wantedBy, sortOfHead, next, left, headRight, termsRight}
+use Rattle.definitions.specs.Text.Grammar.{Symbol, Terms, end, Command, symbolsIn, Wanted, wantedBy, sortOfHead, next, left, headRight, termsRight}
 use Rattle.definitions.specs.Text.Grammar as grammar
 use Rattle.definitions.specs.Text.Reader.{Opened, State, inside, put, scriptRead}
 use Rattle.definitions.specs.Lists.{snoc}
@@ -18,16 +18,18 @@ use Rattle.definitions.specs.declared.Refusal.{Refusal}
 use Rattle.theorems.specs.Origins.{NoTwins}
 use Rattle.theorems.proofs.Text.Meant.Shared.{Earlier}
 use Rattle.theorems.proofs.Text.Meant.Laying.{Full}
+use Rattle.theorems.proofs.Text.Taken.Kept.Invariant.{rowRight}
 use Rattle.text.specs.Lexing.{lexemeRead, LexemeFits, Lexed}
 use Rattle.text.specs.Reading.{Reached, isToken}
-use Rattle.text.specs.Symbols.{sortIs, Symbols, DeclaredSound}
+use Rattle.text.specs.Symbols.{sortIs, Symbols, DeclaredSound, headRead, ArityIs, leftAfter}
 use Rattle.text.specs.Laying.{tableIn, TableFits, Performs}
 use Rattle.text.specs.Lists.{kept, noRow, arguments, awaiting, Counted}
-use Rattle.text.specs.Rowing.{RowIs}
+use Rattle.text.specs.Rowing.{RowIs, RowSmall}
 use Rattle.text.specs.declared.tokens.Token.{Token}
 use Rattle.text.specs.declared.declared.Declared.{Declared}
 use Rattle.text.specs.declared.nodes.Laying.{Laying}
 use Rattle.text.specs.declared.nodes.Asked.{Asked}
+use Rattle.text.specs.declared.heads.Head.{Head}
 use Rattle.text.specs.declared.lists.Row.{Row}
 use Rattle.text.specs.declared.terms.Term.{Term}
 
@@ -111,3 +113,34 @@ pub record ReadsBare (text shelf : List ℕ) (d : Declared) (t : Token) (formula
   pub sound : TermSound text (t .next) r
   pub says : (levels : ℕ) → isToken opening (lexemeRead text (t .lexeme)) ≡ false → (sn : List ℕ) (cs : List Command) (w : Wanted) (row : Terms) (outer : List Opened) (at : ℕ)
       → TermWanted text sn cs shelf d w row outer at t formula levels nodes l → TermSays text sn cs w row outer formula nodes l r nodes′
+
+-- a bracket and its head are read, in a list with this outermost bracket
+pub record ListBegun (text sn : List ℕ) (cs : List Command) (shelf : List ℕ) (d : Declared) (head : Head) (levels : ℕ) (o : Opened) (outer : List Opened)
+    (nodes : List ℕ) (l : Laying) (at : ℕ) : Type 0 where
+  pub symbols : Symbols text sn cs shelf d
+  pub arity-is : ArityIs (symbolsIn cs) head
+  pub head-right : headRight (symbolsIn cs) (headRead head) ≡ true
+  pub good : TableGood (symbolsIn cs) nodes l
+  pub level : length outer + levels ≡ 64
+  pub left-over : 0 < levels
+  pub reached : Reached text (inList sn cs (wantedBy (symbolsIn cs) (headRead head)) end (o ∷ outer)) at
+
+-- some of its arguments are read and laid
+pub record InArguments (text sn : List ℕ) (cs : List Command) (head : Head) (o : Opened) (outer : List Opened) (nodes₀ : List ℕ) (l₀ : Laying)
+    (nodes pending : List ℕ) (row : Row) (seen : ℕ) (l : Laying) (at : ℕ) : Type 0 where
+  pub args : Terms
+  pub reached : Reached text (inList sn cs (leftAfter (length (treesOf args)) (wantedBy (symbolsIn cs) (headRead head))) args (o ∷ outer)) at
+  pub right : rowRight (symbolsIn cs) (wantedBy (symbolsIn cs) (headRead head)) args ≡ true
+  pub counted : seen ≡ min (length (treesOf args)) 3
+  pub so : ListSo (symbolsIn cs) (headRead head) (tableIn nodes₀ (l₀ .count)) (l₀ .over) (treesOf args) row pending nodes l
+
+-- what the loop over the arguments keeps
+pub record ArgumentsSo (text shelf : List ℕ) (d : Declared) (levels : ℕ) (nodes₀ : List ℕ) (head : Head) (l₀ : Laying) (at₀ : ℕ) (nodes pending : List ℕ) (row : Row)
+    (seen : ℕ) (l : Laying) (at : ℕ) : Type 0 where
+  pub inside : at ≤ length text
+  pub onward : at₀ ≤ at
+  pub small : RowSmall row
+  pub fits : TableFits nodes (l .count)
+  pub long : length pending ≡ 256
+  pub says : (sn : List ℕ) (cs : List Command) (o : Opened) (outer : List Opened) → ListBegun text sn cs shelf d head levels o outer nodes₀ l₀ at₀
+      → InArguments text sn cs head o outer nodes₀ l₀ nodes pending row seen l at

@@ -21,7 +21,13 @@ pub enum Next {
 }
 
 // The head that stands after a bracket.
-pub fn head_at(text: &[u8], shelf: &[usize], declared: Declared, lexeme: Lexeme, formula: bool) -> Headed
+pub fn head_at(
+    text: &[u8],
+    shelf: &[usize],
+    declared: Declared,
+    lexeme: Lexeme,
+    formula: bool,
+) -> Headed
     requires { ⌜ DeclaredSound (now text) (now shelf) declared × LexemeFits (now text) lexeme ⌝ }
     ensures { λ r. ⌜ HeadsAt (now (text .entry)) (now (shelf .entry)) declared lexeme formula r ⌝ }
 {

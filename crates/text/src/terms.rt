@@ -1,5 +1,4 @@
 // Terms: each is read and laid, and calls itself on its sub-terms with the remaining depth falling.
-ghost use mathlib.Core.Path.{_≡_};
 ghost use Prim.Native.Nat.{_≤_};
 ghost use Rattle.text.specs.Terms.{TermAsked, ReadsBare, ReadsTerm};
 use crate::arguments::Next;

@@ -1,17 +1,16 @@
 -- Only a symbol names a head. Assumes nothing.
 use mathlib.Core.Path.{_≡_, sym, ap, subst}
 use Prim.Native.Nat.{ℕ}
-use mathlib.Core.List.{List, [], _∷_}
+use mathlib.Core.List.{List}
 use mathlib.Core.Option.{Option, none, some}
-use types.Run.{OneOf}
 use Rattle.definitions.specs.Text.Tokens.{symbol}
 use Rattle.definitions.specs.Text.Tokens as tokens
-use Rattle.definitions.specs.Text.Grammar.{Symbol, Command, symbolsIn}
+use Rattle.definitions.specs.Text.Grammar.{Symbol, symbolsIn}
 use Rattle.definitions.specs.Problem.Ops.{Sort}
 use Rattle.definitions.specs.Text.Heads.{bracketed}
 use Rattle.text.specs.Lexing.{nameOf, lexemeRead, LexemeFits, NameWithin}
 use Rattle.text.specs.Reading.{NoSymbol}
-use Rattle.text.specs.Symbols.{sortIs, HeadedIs, Symbols}
+use Rattle.text.specs.Symbols.{sortIs, HeadedIs}
 use Rattle.text.specs.Following.{NoHead, HeadIs}
 use Rattle.text.specs.declared.tokens.Name.{Name}
 use Rattle.text.specs.declared.tokens.Lexeme.{Lexeme}

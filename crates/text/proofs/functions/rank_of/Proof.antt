@@ -1,10 +1,10 @@
 -- The result, and the closing bracket. Assumes nothing.
-use mathlib.Core.Path.{_≡_, refl, sym, ap, _∙_, subst}
-use Prim.Native.Nat.{ℕ, _+_, _≤_, _<_}
+use mathlib.Core.Path.{_≡_, sym, ap, _∙_, subst}
+use Prim.Native.Nat.{ℕ, _≤_, _<_}
 use native.Mathlib.Omega.{arith}
-use mathlib.Core.Bool.{Bool, true, false}
+use mathlib.Core.Bool.{Bool}
 use mathlib.Core.List.{List}
-use mathlib.Core.Logic.{_⊎_, inl, inr, ⊎-elim}
+use mathlib.Core.Logic.{_⊎_, ⊎-elim}
 use lib.ListN.{length}
 use Rattle.definitions.specs.Lists.{snoc}
 use Rattle.definitions.specs.Text.Tokens.{opening, closing}
@@ -17,7 +17,6 @@ use Rattle.text.specs.Symbols.{sortIs, atCommand}
 use Rattle.text.specs.Ranks.{inGiving, ResultIs, ResultSound}
 use Rattle.text.specs.Functions.{symbolOf}
 use Rattle.text.specs.declared.exact.Step.{Step}
-use Rattle.text.specs.declared.ranks.Given.{Given}
 use Rattle.text.proofs.ReachLaws.{exactly-on}
 use borrow.Author.Needs.{needs}
 use Rattle.text.proofs.functions.rank_of.Statement.{statement}

@@ -1,5 +1,5 @@
 -- One after the other, as far as each will do. Assumes nothing.
-use mathlib.Core.Path.{_≡_, subst}
+use mathlib.Core.Path.{subst}
 use Prim.Native.Nat.{ℕ, _≤_}
 use native.Mathlib.Omega.{arith}
 use mathlib.Core.List.{List, []}
@@ -115,8 +115,7 @@ returns-3 c =
 returns-4 : tie.Need-returns-4
 returns-4 c =
     let exacts = c .before .before .before in
-    let known = exacts .before .before .before .before in
-    (
+    let known = exacts .before .before .before .before in (
       subst (ReachedBy (text (sorted known)) (atCommand (nameOf (text (sorted known)) (sort known)) [])) (c .before .closed2 .given .1) (closed-by exacts),
       is-named known .1,
       subst (StepWithin (text (sorted known))) (c .before .closed2 .given .1) (exacts .exact2 .ensures .1),

@@ -1,8 +1,7 @@
 -- The tests are the definition's. Assumes nothing.
-use mathlib.Core.Path.{sym, ap, ap₂, _∙_}
-use mathlib.Core.Bool.{Bool, true, false, not, _&&_, _||_}
-use Rattle.definitions.specs.Text.Ascii.{sameBytes}
-use Rattle.definitions.specs.Text.Grammar.{BOOL, solversOwn}
+use mathlib.Core.Path.{sym, ap, _∙_}
+use mathlib.Core.Bool.{Bool, false, not, _&&_, _||_}
+use Rattle.definitions.specs.Text.Grammar.{solversOwn}
 use borrow.Author.Needs.{needs}
 use Rattle.text.proofs.prologue.sort_free.Statement.{statement}
 use Rattle.text.proofs.prologue.sort_free.Tie as tie

@@ -2,14 +2,13 @@
 use mathlib.Core.Path.{_≡_, sym, ap, _∙_, subst}
 use Prim.Native.Nat.{ℕ}
 use native.Mathlib.Omega.{arith}
-use mathlib.Core.List.{List, [], _∷_}
+use mathlib.Core.List.{List}
 use mathlib.Core.Option.{some}
-use types.Run.{OneOf, miss}
 use Rattle.definitions.specs.Text.Tokens.{symbol}
 use Rattle.text.specs.Lexing.{nameOf, lexemeRead, LexemeFits, NameWithin}
 use Rattle.text.specs.declared.tokens.Name.{Name}
 use Rattle.text.specs.declared.tokens.Lexeme.{Lexeme}
-use Rattle.text.proofs.LexemeLaws.{tagOf, lexeme-fits, no-symbol-there}
+use Rattle.text.proofs.LexemeLaws.{lexeme-fits, no-symbol-there}
 use Rattle.text.proofs.NameSteps.{sort-named, sort-taken, no-sort}
 use borrow.Author.Needs.{needs}
 use Rattle.text.proofs.prologue.sort_name.Statement.{statement}
@@ -65,8 +64,7 @@ returns-2 : tie.Need-returns-2
 returns-2 c =
     let known = c .before .before .before in
     let s = begin known in
-    let lexed = known .before .before .before .next in
-    (
+    let lexed = known .before .before .before .next in (
       sort-named (text known) (s .args .at) (s .pre .0) (lexed .result) (lexed .ensures) _ (reads known) (sym (c .before .sort-free .ensures) ∙ c .if1 .taken),
       inside known,
       lexed .ensures .inside,
