@@ -1,23 +1,50 @@
--- How far the commands of a text are read (02, E1). Assumes nothing.
-use Prim.Native.Nat.{ℕ, _≤_}
-use mathlib.Core.List.{List, [], _∷_}
+-- Which command comes, and what that says of the text read so far (02, E1: "declare-fun .. and assert in any mix, check-sat last").
+-- Assumes nothing.
+use mathlib.Core.Path.{_≡_}
+use Prim.Native.Nat.{ℕ, _≤_, _<_}
+use mathlib.Core.Bool.{true, false}
+use mathlib.Core.List.{List, []}
 use lib.ListN.{length}
-use Rattle.definitions.specs.Text.Tokens.{opening, closing, nought}
-use Rattle.definitions.specs.Text.Reader.{each, commanding}
-use Rattle.text.specs.Lexing.{nameOf, NameWithin}
-use Rattle.text.specs.Reading.{Reached, WrongAt}
-use Rattle.text.specs.Symbols.{atCommand}
-use Rattle.text.specs.declared.prologue.Named.{Named}
+use Rattle.definitions.specs.Text.Ascii.{ascii, sameBytes}
+use Rattle.definitions.specs.Text.Tokens.{closing}
+use Rattle.definitions.specs.Text.Grammar.{end, oneFormula}
+use Rattle.definitions.specs.Text.Grammar as grammar
+use Rattle.definitions.specs.Text.Reader.{State, exact, finished}
+use Rattle.terms.specs.Reading.{Reached, WrongAt}
+use Rattle.terms.specs.Symbols.{atCommand}
+use Rattle.terms.specs.Functions.{inDeclaring}
+use Rattle.terms.specs.Terms.{inList}
+use Rattle.text.specs.declared.commands.Command.{Command}
 
--- the sort's name is read, or it is refused
-abbrev pub SortNamed : List ℕ → Named → Type 0
-SortNamed text (Named.Name name at) =
-    Reached text (record { sortName = nameOf text name; commands = []; stage = each (nought ∷ closing ∷ opening ∷ []) commanding }) at
-    × NameWithin text name
-    × (at ≤ length text)
-SortNamed text (Named.Wrong place) = WrongAt text place
+-- the command of a word
+abbrev pub commandOf : List ℕ → ℕ → ℕ → Command
+commandOf name place behind =
+    elim (sameBytes name (ascii "declare-fun")) [
+      | true ↦ Command.Declare behind
+      | false ↦
+          elim (sameBytes name (ascii "assert")) [
+            | true ↦ Command.Assert behind
+            | false ↦ elim (sameBytes name (ascii "check-sat")) [ true ↦ Command.Check behind | false ↦ Command.Wrong place ]
+          ]
+    ]
 
--- the first command may come, or the text is refused
-abbrev pub Begun : List ℕ → Named → Type 0
-Begun text (Named.Name name at) = Reached text (atCommand (nameOf text name) []) at × NameWithin text name × (at ≤ length text)
-Begun text (Named.Wrong place) = WrongAt text place
+-- after check-sat
+abbrev pub inChecking : List ℕ → List grammar.Command → State
+inChecking sn cs = record { sortName = sn; commands = cs; stage = exact closing finished }
+
+abbrev pub CommandIs : List ℕ → List ℕ → List grammar.Command → Command → Type 0
+CommandIs text sn cs (Command.Declare at) = Reached text (inDeclaring sn cs) at
+CommandIs text sn cs (Command.Assert at) = Reached text (inList sn cs oneFormula end []) at
+CommandIs text sn cs (Command.Check at) = Reached text (inChecking sn cs) at
+CommandIs text sn cs (Command.Wrong place) = WrongAt text place
+
+-- whatever is read, the offset behind the word lies further on, within the text
+abbrev pub CommandSound : List ℕ → ℕ → Command → Type 0
+CommandSound text from (Command.Declare at) = (from < at) × (at ≤ length text)
+CommandSound text from (Command.Assert at) = (from < at) × (at ≤ length text)
+CommandSound text from (Command.Check at) = (from < at) × (at ≤ length text)
+CommandSound text from (Command.Wrong place) = Unit {0}
+
+pub record ReadsCommand (text : List ℕ) (from : ℕ) (r : Command) : Type 0 where
+  pub sound : CommandSound text from r
+  pub says : (sn : List ℕ) (cs : List grammar.Command) → Reached text (atCommand sn cs) from → CommandIs text sn cs r
