@@ -1,1 +1,3 @@
 pub mod AssertLaws
+pub mod CommandSteps
+pub mod ShelfLaws

@@ -1,3 +1,5 @@
 pub mod Commands
 pub mod Scripted
 pub mod Asserting
+pub mod Shelving
+pub mod Checking

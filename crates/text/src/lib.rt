@@ -2,3 +2,5 @@
 pub mod commands;
 pub mod scripts;
 pub mod asserting;
+pub mod shelving;
+pub mod checking;
