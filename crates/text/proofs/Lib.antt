@@ -1,3 +1,4 @@
 pub mod AssertLaws
 pub mod CommandSteps
 pub mod ShelfLaws
+pub mod CheckLaws

@@ -8,7 +8,7 @@ use Rattle.definitions.specs.Text.Grammar.{Command, end, oneFormula}
 use Rattle.definitions.specs.Text.Reader.{State}
 use Rattle.terms.specs.Symbols.{DeclaredSound}
 use Rattle.terms.specs.Laying.{TableFits}
-use Rattle.terms.specs.Terms.{inList, RefusedBy}
+use Rattle.terms.specs.Terms.{inList}
 use Rattle.terms.specs.declared.declared.Declared.{Declared}
 use Rattle.terms.specs.declared.nodes.Asked.{Asked}
 use Rattle.text.specs.Scripted.{Inside, WentOn}

@@ -1,6 +1,5 @@
 -- Which command comes, and what that says of the text read so far (02, E1: "declare-fun .. and assert in any mix, check-sat last").
 -- Assumes nothing.
-use mathlib.Core.Path.{_≡_}
 use Prim.Native.Nat.{ℕ, _≤_, _<_}
 use mathlib.Core.Bool.{true, false}
 use mathlib.Core.List.{List, []}

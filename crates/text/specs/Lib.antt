@@ -3,3 +3,4 @@ pub mod Scripted
 pub mod Asserting
 pub mod Shelving
 pub mod Checking
+pub mod Declaring

@@ -4,12 +4,10 @@ use Prim.Native.Nat.{ℕ, _≤_, _<_}
 use mathlib.Core.Bool.{true, false}
 use mathlib.Core.List.{List}
 use lib.ListN.{length, take}
-use Rattle.definitions.specs.Operations.Answers.{refused, given}
-use Rattle.definitions.specs.Operations.Readings.{refusalRead}
+use Rattle.definitions.specs.Operations.Answers.{given}
 use Rattle.definitions.specs.Text.Grammar.{Command, symbolsIn, assertsIn}
 use Rattle.definitions.specs.Text.Reader.{State, scriptRead}
 use Rattle.definitions.specs.Text.Nodes.{symbolBytes}
-use Rattle.definitions.specs.declared.Refusal.{Refusal}
 use Rattle.terms.specs.Lexing.{nameOf}
 use Rattle.terms.specs.Reading.{Reached}
 use Rattle.terms.specs.Symbols.{Symbols, DeclaredSound}

@@ -4,3 +4,5 @@ pub mod scripts;
 pub mod asserting;
 pub mod shelving;
 pub mod checking;
+pub mod declaring;
+pub mod stepping;
