@@ -4,3 +4,4 @@ pub mod Asserting
 pub mod Shelving
 pub mod Checking
 pub mod Declaring
+pub mod Whole

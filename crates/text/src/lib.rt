@@ -6,3 +6,4 @@ pub mod shelving;
 pub mod checking;
 pub mod declaring;
 pub mod stepping;
+pub mod whole;
