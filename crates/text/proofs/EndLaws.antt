@@ -1,0 +1,56 @@
+-- Laws of a text's end: what joins the asserts, the one negation behind it, the limits, and what is answered then (02, E1).
+-- Assumes nothing.
+use mathlib.Core.Path.{_≡_, sym, ap, _∙_}
+use Prim.Native.Nat.{ℕ, _+_, _≤_, _<_}
+use native.Mathlib.Omega.{arith}
+use mathlib.Core.List.{List, [], _∷_}
+use lib.ListN.{length, take, drop, getD, drop-of-length-le}
+use lib.Seq.{getD-take, length-take-le}
+use Rattle.definitions.specs.Problem.Node.{Node, plain}
+use Rattle.definitions.specs.Text.Nodes.{Laid, laid, ask}
+use Rattle.terms.specs.Laying.{Performs}
+use Rattle.terms.specs.Scripts.{joinedOn, joinedRoots}
+use Rattle.terms.specs.declared.nodes.Laying.{Laying}
+use Rattle.terms.specs.declared.nodes.Asked.{Asked}
+use Rattle.terms.proofs.ByteLaws.{from-here}
+use Rattle.terms.proofs.ListSteps.{Grows, grows-none, grows-on, ask-grows}
+use Rattle.terms.proofs.RowLaws.{performs-as, one-after-another}
+
+-- what joins the roots from one on
+abbrev pub joining : List ℕ → ℕ → ℕ → List Node → Laid
+joining rs i n t = joinedOn (drop i rs) (laid n t)
+
+joined-grows : (rs : List ℕ) (l : Laid) → Grows (l .table) (joinedOn rs l .table)
+joined-grows [] l = grows-none (l .table)
+joined-grows (r ∷ rs) l =
+    let n = plain 4 (l .number) r 0 in
+    let next = ask n (l .table) in
+    grows-on (l .table) (next .table) (joinedOn rs next .table) (ask-grows n (l .table)) (joined-grows rs next)
+
+module _ (roots : List ℕ) (asserts : ℕ) (few : asserts ≤ length roots) where
+  abbrev asserted : List ℕ
+  asserted = take asserts roots
+
+  counted : length asserted ≡ asserts
+  counted = length-take-le asserts roots few
+
+  root-at : (i : ℕ) → i < asserts → drop i asserted ≡ getD roots i 0 ∷ drop (i + 1) asserted
+  root-at i h =
+      from-here asserted i (omega (arith, counted)) ∙ ap (λ (k : ℕ). k ∷ drop (i + 1) asserted) (getD-take asserts roots i 0 h)
+
+  pub none-joined : asserts ≡ 0 → ask (plain 7 0 0 0) ≡ joinedRoots asserted
+  none-joined e = sym (ap (λ (n : ℕ). joinedRoots (take n roots)) e)
+
+  pub first-joined : 0 < asserts → joining asserted 1 (getD roots 0 0) ≡ joinedRoots asserted
+  first-joined h = sym (ap joinedRoots (root-at 0 h))
+
+  pub joins-one : (i n : ℕ) {nodes between after : List ℕ} {l : Laying} {a r : Asked} → i < asserts
+      → Performs (ask (plain 4 n (getD roots i 0) 0)) nodes l a between
+      → Performs (joining asserted (i + 1) (a .number)) between (a .laying) r after
+      → Performs (joining asserted i n) nodes l r after
+  joins-one i n h one rest =
+      performs-as (λ k t. joinedOn (sym (root-at i h) k) (laid n t))
+      (one-after-another (ask (plain 4 n (getD roots i 0) 0)) (joining asserted (i + 1)) (λ m t. joined-grows (drop (i + 1) asserted) (laid m t)) one rest)
+
+  pub all-joined : (i n : ℕ) → asserts ≤ i → laid n ≡ joining asserted i n
+  all-joined i n h = λ k t. joinedOn (sym (drop-of-length-le asserted {i = i} (omega (arith, counted))) k) (laid n t)

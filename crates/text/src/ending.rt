@@ -1,0 +1,49 @@
+// What is done when a text is read out: what joins the asserts, the one negation, the limits, and the problem written.
+ghost use mathlib.Core.Path.{_≡_};
+ghost use Prim.Native.Nat.{_≤_};
+ghost use lib.ListN.{length, take};
+ghost use Rattle.terms.specs.Laying.{TableFits, Performs};
+ghost use Rattle.terms.specs.Scripts.{joinedRoots};
+use problem::bytes::wide;
+use terms::nodes::Asked;
+use terms::nodes::Laying;
+use terms::nodes::Node;
+use terms::nodes::ask;
+
+// What joins the asserts; no assert counts as true.
+fn join(nodes: &mut [u8], roots: &[u8], asserts: usize, laying: Laying) -> Asked
+    requires { ⌜ TableFits (now nodes) (laying .count) × (length (now roots) ≡ 256) × (asserts ≤ 256) ⌝ }
+    ensures { λ r. ⌜ Performs (joinedRoots (take asserts (now (roots .entry)))) (now (nodes .entry)) laying r (now (nodes .exit)) ⌝ }
+{
+    if asserts == 0 {
+        return ask(
+            nodes,
+            laying,
+            Node {
+                op: 7,
+                symbol: 0,
+                a: 0,
+                b: 0,
+                c: 0,
+            },
+        );
+    }
+    let mut asked = Asked {
+        number: wide(roots[0]),
+        laying,
+    };
+    let mut i = 1;
+    while i < asserts {
+        let laid = asked.laying;
+        let root = Node {
+            op: 4,
+            symbol: 0,
+            a: asked.number,
+            b: wide(roots[i]),
+            c: 0,
+        };
+        asked = ask(nodes, laid, root);
+        i += 1;
+    }
+    asked
+}
