@@ -1,20 +1,24 @@
 -- Laws of a text's end: what joins the asserts, the one negation behind it, the limits, and what is answered then (02, E1).
 -- Assumes nothing.
-use mathlib.Core.Path.{_≡_, sym, ap, _∙_}
+use mathlib.Core.Path.{_≡_, refl, sym, ap, _∙_}
 use Prim.Native.Nat.{ℕ, _+_, _≤_, _<_}
 use native.Mathlib.Omega.{arith}
+use mathlib.Core.Bool.{Bool, true, false, true≢false, false≢true}
 use mathlib.Core.List.{List, [], _∷_}
-use lib.ListN.{length, take, drop, getD, drop-of-length-le}
+use lib.ListN.{length, take, drop, getD, length-append, drop-of-length-le}
 use lib.Seq.{getD-take, length-take-le}
 use Rattle.definitions.specs.Problem.Node.{Node, plain}
+use Rattle.definitions.specs.Operations.Buffers.{over}
 use Rattle.definitions.specs.Text.Nodes.{Laid, laid, ask}
-use Rattle.terms.specs.Laying.{Performs}
+use Rattle.theorems.proofs.Accepted.{length-nodesAt}
+use Rattle.terms.specs.Laying.{tableIn, Performs}
 use Rattle.terms.specs.Scripts.{joinedOn, joinedRoots}
 use Rattle.terms.specs.declared.nodes.Laying.{Laying}
 use Rattle.terms.specs.declared.nodes.Asked.{Asked}
 use Rattle.terms.proofs.ByteLaws.{from-here}
 use Rattle.terms.proofs.ListSteps.{Grows, grows-none, grows-on, ask-grows}
 use Rattle.terms.proofs.RowLaws.{performs-as, one-after-another}
+use Rattle.text.specs.Ending.{negated, Negated}
 
 -- what joins the roots from one on
 abbrev pub joining : List ℕ → ℕ → ℕ → List Node → Laid
@@ -54,3 +58,41 @@ module _ (roots : List ℕ) (asserts : ℕ) (few : asserts ≤ length roots) whe
 
   pub all-joined : (i n : ℕ) → asserts ≤ i → laid n ≡ joining asserted i n
   all-joined i n h = λ k t. joinedOn (sym (drop-of-length-le asserted {i = i} (omega (arith, counted))) k) (laid n t)
+
+-- the three ways of the negation: the table had no room before; it is full; the node is appended
+abbrev layingOf : ℕ → Bool → Laying
+layingOf count over = record { count = count; over = over }
+
+length-negated : (nodes : List ℕ) (a : Asked) → length (negated nodes a) ≡ a .laying .count + 1
+length-negated nodes a =
+    length-append (tableIn nodes (a .laying .count)) (plain 3 (a .number) 0 0 ∷ [])
+    ∙ ap (λ (k : ℕ). k + 1) (length-nodesAt nodes 0 (a .laying .count))
+
+module _ (nodes : List ℕ) (a : Asked) where
+  pub none-negated : a .laying .count ≤ 256 → a .laying .over ≡ true → Negated nodes a (a .laying) nodes
+  none-negated h e =
+      record {
+        few = h;
+        stays = λ p. p;
+        done = λ p q. absurd (true≢false (sym e ∙ p));
+        more = λ p q. absurd (true≢false (sym e ∙ p));
+      }
+
+  pub full-negated : a .laying .count ≡ 256 → Negated nodes a (layingOf (a .laying .count) true) nodes
+  full-negated e =
+      record {
+        few = omega arith;
+        stays = λ p. refl;
+        done = λ p q. absurd (true≢false q);
+        more = λ p q. omega (arith, length-negated nodes a);
+      }
+
+  pub one-negated : (after : List ℕ) → a .laying .count < 256 → a .laying .over ≡ false → tableIn after (a .laying .count + 1) ≡ negated nodes a
+      → Negated nodes a (layingOf (a .laying .count + 1) false) after
+  one-negated after h e t =
+      record {
+        few = omega arith;
+        stays = λ p. absurd (true≢false (sym p ∙ e));
+        done = λ p q. t;
+        more = λ p q. absurd (false≢true q);
+      }

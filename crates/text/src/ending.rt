@@ -1,9 +1,11 @@
 // What is done when a text is read out: what joins the asserts, the one negation, the limits, and the problem written.
 ghost use mathlib.Core.Path.{_≡_};
-ghost use Prim.Native.Nat.{_≤_};
+ghost use Prim.Native.Nat.{_<_, _≤_};
 ghost use lib.ListN.{length, take};
 ghost use Rattle.terms.specs.Laying.{TableFits, Performs};
 ghost use Rattle.terms.specs.Scripts.{joinedRoots};
+ghost use Rattle.text.specs.Ending.{Negated};
+use elimination::put::put_node;
 use problem::bytes::wide;
 use terms::nodes::Asked;
 use terms::nodes::Laying;
@@ -46,4 +48,25 @@ fn join(nodes: &mut [u8], roots: &[u8], asserts: usize, laying: Laying) -> Asked
         i += 1;
     }
     asked
+}
+
+// The one negation, last: it is appended and not asked for.
+fn negate(nodes: &mut [u8], asked: Asked) -> Laying
+    requires { ⌜ TableFits (now nodes) (asked .laying .count) × (asked .number < 256) ⌝ }
+    ensures { λ r. ⌜ Negated (now (nodes .entry)) asked r (now (nodes .exit)) ⌝ }
+{
+    let laying = asked.laying;
+    if laying.over {
+        return laying;
+    }
+    let count = laying.count;
+    if count == 256 {
+        return Laying { count, over: true };
+    }
+    let at = 8 * count;
+    put_node(&mut nodes[at..], 3, 0, asked.number, 0, 0);
+    Laying {
+        count: count + 1,
+        over: false,
+    }
 }
