@@ -1,13 +1,18 @@
 -- Laws of a text's end: what joins the asserts, the one negation behind it, the limits, and what is answered then (02, E1).
 -- Assumes nothing.
-use mathlib.Core.Path.{_≡_, refl, sym, ap, _∙_}
+use mathlib.Core.Path.{_≡_, refl, sym, ap, ap₂, _∙_}
 use Prim.Native.Nat.{ℕ, _+_, _≤_, _<_}
 use native.Mathlib.Omega.{arith}
 use mathlib.Core.Bool.{Bool, true, false, true≢false, false≢true}
 use mathlib.Core.List.{List, [], _∷_}
+use mathlib.Core.Option.{Option, none, some}
 use lib.ListN.{length, take, drop, getD, length-append, drop-of-length-le}
 use lib.Seq.{getD-take, length-take-le}
+use lib.Dec.{ltb}
+use borrow.Author.Tests.{lt-ltb, le-ltb}
+use Rattle.definitions.specs.Lists.{firstOf}
 use Rattle.definitions.specs.Problem.Node.{Node, plain}
+use Rattle.definitions.specs.Problem.Check.{functionsIn, predicatesIn, Refused, refuse, refuseIf}
 use Rattle.definitions.specs.Operations.Buffers.{over}
 use Rattle.definitions.specs.Text.Nodes.{Laid, laid, ask}
 use Rattle.theorems.proofs.Accepted.{length-nodesAt}
@@ -18,6 +23,7 @@ use Rattle.terms.specs.declared.nodes.Asked.{Asked}
 use Rattle.terms.proofs.ByteLaws.{from-here}
 use Rattle.terms.proofs.ListSteps.{Grows, grows-none, grows-on, ask-grows}
 use Rattle.terms.proofs.RowLaws.{performs-as, one-after-another}
+use Rattle.terms.proofs.ScriptLaws.{afterFour}
 use Rattle.text.specs.Ending.{negated, Negated}
 
 -- what joins the roots from one on
@@ -96,3 +102,17 @@ module _ (nodes : List ℕ) (a : Asked) where
         done = λ p q. t;
         more = λ p q. absurd (false≢true q);
       }
+
+-- 9, then 10
+module _ (t : List Node) where
+  tried : (a b : Bool) → ltb 24 (functionsIn t) ≡ a → ltb 16 (predicatesIn t) ≡ b → firstOf (refuseIf a 9 ∷ refuseIf b 10 ∷ []) ≡ firstOf (afterFour t)
+  tried a b e f = sym (ap₂ {C = Option Refused} (λ (x y : Bool). firstOf (refuseIf x 9 ∷ refuseIf y 10 ∷ [])) e f)
+
+  pub nine : 24 < functionsIn t → some (refuse 9 0) ≡ firstOf (afterFour t)
+  nine h = tried true (ltb 16 (predicatesIn t)) (lt-ltb 24 (functionsIn t) h) refl
+
+  pub ten : functionsIn t ≤ 24 → 16 < predicatesIn t → some (refuse 10 0) ≡ firstOf (afterFour t)
+  ten h g = tried false true (le-ltb 24 (functionsIn t) h) (lt-ltb 16 (predicatesIn t) g)
+
+  pub neither : functionsIn t ≤ 24 → predicatesIn t ≤ 16 → none ≡ firstOf (afterFour t)
+  neither h g = tried false false (le-ltb 24 (functionsIn t) h) (le-ltb 16 (predicatesIn t) g)

@@ -2,15 +2,27 @@
 ghost use mathlib.Core.Path.{_≡_};
 ghost use Prim.Native.Nat.{_<_, _≤_};
 ghost use lib.ListN.{length, take};
+ghost use Rattle.definitions.specs.Lists.{firstOf};
+ghost use Rattle.definitions.specs.Problem.Check.{nodesOf};
+ghost use Rattle.problem.specs.Shape.{Shaped};
 ghost use Rattle.terms.specs.Laying.{TableFits, Performs};
 ghost use Rattle.terms.specs.Scripts.{joinedRoots};
-ghost use Rattle.text.specs.Ending.{Negated};
+ghost use Rattle.terms.proofs.ScriptLaws.{afterFour};
+ghost use Rattle.text.specs.Ending.{limitRead, Negated};
+use definitions::Refusal;
 use elimination::put::put_node;
 use problem::bytes::wide;
+use problem::repeats::distinct;
 use terms::nodes::Asked;
 use terms::nodes::Laying;
 use terms::nodes::Node;
 use terms::nodes::ask;
+
+// Whether a problem's applications are few enough.
+enum Limit {
+    Fine,
+    Refused(Refusal),
+}
 
 // What joins the asserts; no assert counts as true.
 fn join(nodes: &mut [u8], roots: &[u8], asserts: usize, laying: Laying) -> Asked
@@ -69,4 +81,18 @@ fn negate(nodes: &mut [u8], asked: Asked) -> Laying
         count: count + 1,
         over: false,
     }
+}
+
+// 9, and then 10.
+fn limits(whole: &[u8], symbols: usize, nodes: usize) -> Limit
+    requires { ⌜ Shaped (now whole) symbols nodes ⌝ }
+    ensures { λ r. ⌜ limitRead r ≡ firstOf (afterFour (nodesOf (now (whole .entry)))) ⌝ }
+{
+    if 24 < distinct(whole, symbols, nodes, 0) {
+        return Limit::Refused(Refusal::ManyFunctions);
+    }
+    if 16 < distinct(whole, symbols, nodes, 6) {
+        return Limit::Refused(Refusal::ManyPredicates);
+    }
+    Limit::Fine
 }
