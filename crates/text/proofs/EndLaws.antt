@@ -1,21 +1,28 @@
 -- Laws of a text's end: what joins the asserts, the one negation behind it, the limits, and what is answered then (02, E1).
 -- Assumes nothing.
-use mathlib.Core.Path.{_≡_, refl, sym, ap, ap₂, _∙_}
-use Prim.Native.Nat.{ℕ, _+_, _≤_, _<_}
+use mathlib.Core.Path.{_≡_, refl, sym, ap, ap₂, _∙_, subst}
+use Prim.Native.Nat.{ℕ, _+_, _*_, _≤_, _<_}
 use native.Mathlib.Omega.{arith}
 use mathlib.Core.Bool.{Bool, true, false, true≢false, false≢true}
-use mathlib.Core.List.{List, [], _∷_}
+use mathlib.Core.List.{List, [], _∷_, _++_}
 use mathlib.Core.Option.{Option, none, some}
 use lib.ListN.{length, take, drop, getD, length-append, drop-of-length-le}
-use lib.Seq.{getD-take, length-take-le}
+use lib.Seq.{getD-take, length-take-le, take-at}
 use lib.Dec.{ltb}
 use borrow.Author.Tests.{lt-ltb, le-ltb}
 use Rattle.definitions.specs.Lists.{firstOf}
-use Rattle.definitions.specs.Problem.Node.{Node, plain}
-use Rattle.definitions.specs.Problem.Check.{functionsIn, predicatesIn, Refused, refuse, refuseIf}
-use Rattle.definitions.specs.Operations.Buffers.{over}
+use Rattle.definitions.specs.Problem.Node.{Node, plain, problemBytes}
+use Rattle.definitions.specs.Problem.Check.{nodesOf, functionsIn, predicatesIn, Refused, refuse, refuseIf}
+use Rattle.definitions.specs.Operations.Answers.{given, unless}
+use Rattle.definitions.specs.Operations.Buffers.{over, unlessRefused}
+use Rattle.definitions.specs.Operations.Readings.{refusalRead}
 use Rattle.definitions.specs.Text.Nodes.{Laid, laid, ask}
+use Rattle.definitions.specs.declared.Refusal.{Refusal}
+use Rattle.definitions.specs.declared.Reading.{Reading}
 use Rattle.theorems.proofs.Accepted.{length-nodesAt}
+use Rattle.theorems.proofs.Tables.Back.{two-back}
+use Rattle.theorems.proofs.Text.Meant.Bytes.{problem-length}
+use Rattle.problem.specs.Shape.{Shaped}
 use Rattle.terms.specs.Laying.{tableIn, Performs}
 use Rattle.terms.specs.Scripts.{joinedOn, joinedRoots}
 use Rattle.terms.specs.declared.nodes.Laying.{Laying}
@@ -23,8 +30,8 @@ use Rattle.terms.specs.declared.nodes.Asked.{Asked}
 use Rattle.terms.proofs.ByteLaws.{from-here}
 use Rattle.terms.proofs.ListSteps.{Grows, grows-none, grows-on, ask-grows}
 use Rattle.terms.proofs.RowLaws.{performs-as, one-after-another}
-use Rattle.terms.proofs.ScriptLaws.{afterFour}
-use Rattle.text.specs.Ending.{negated, Negated}
+use Rattle.terms.proofs.ScriptLaws.{afterFour, nodes-are}
+use Rattle.text.specs.Ending.{negated, Negated, Delivered}
 
 -- what joins the roots from one on
 abbrev pub joining : List ℕ → ℕ → ℕ → List Node → Laid
@@ -116,3 +123,55 @@ module _ (t : List Node) where
 
   pub neither : functionsIn t ≤ 24 → predicatesIn t ≤ 16 → none ≡ firstOf (afterFour t)
   neither h g = tried false false (le-ltb 24 (functionsIn t) h) (le-ltb 16 (predicatesIn t) g)
+
+-- the problem's bytes, laid at the start of a buffer, and then delivered
+module _ (symbols nodes : List ℕ) (count : ℕ) (whole rest : List ℕ) (put : whole ≡ problemBytes symbols (tableIn nodes count) ++ rest) where
+  abbrev bytes : List ℕ
+  bytes = problemBytes symbols (tableIn nodes count)
+
+  abbrev front : List ℕ
+  front = take (8 + length symbols + 8 * count) whole
+
+  counted-nodes : length (tableIn nodes count) ≡ count
+  counted-nodes = length-nodesAt nodes 0 count
+
+  bytes-long : length bytes ≡ 8 + length symbols + 8 * count
+  bytes-long = problem-length symbols (tableIn nodes count) ∙ ap (λ (n : ℕ). 8 + length symbols + 8 * n) counted-nodes
+
+  front-is : front ≡ bytes
+  front-is = ap (take (8 + length symbols + 8 * count)) put ∙ take-at bytes rest (8 + length symbols + 8 * count) bytes-long
+
+  pub front-long : length front ≡ 8 + length symbols + 8 * count
+  front-long = ap length front-is ∙ bytes-long
+
+  pub front-shaped : length symbols ≤ 32 → 1 ≤ count → count ≤ 256 → Shaped front (length symbols) count
+  front-shaped few one many =
+      subst (λ (l : List ℕ). Shaped l (length symbols) count) (sym front-is)
+      record {
+        symbols-are = refl;
+        nodes-are = sym (two-back (length (tableIn nodes count)) (omega (arith, counted-nodes)) ∙ counted-nodes);
+        few-symbols = few;
+        some-nodes = one;
+        few-nodes = many;
+        whole = bytes-long;
+      }
+
+  limits-of : firstOf (afterFour (nodesOf front)) ≡ firstOf (afterFour (nodesOf bytes))
+  limits-of = ap (λ (l : List ℕ). firstOf (afterFour (nodesOf l))) front-is
+
+  pub refused-delivered : (problem : List ℕ) (x : Refusal) → some (refusalRead x) ≡ firstOf (afterFour (nodesOf front))
+      → Delivered symbols (tableIn nodes count) problem (Reading.Refused x) problem
+  refused-delivered problem x e =
+      record {
+        answers = ap (λ (o : Option Refused). unless o (length bytes)) (e ∙ limits-of);
+        problem-after = ap (λ (o : Option Refused). unlessRefused o problem (over bytes problem)) (e ∙ limits-of);
+      }
+
+  pub fine-delivered : (problem problem′ : List ℕ) → none ≡ firstOf (afterFour (nodesOf front)) → problem′ ≡ over front problem
+      → Delivered symbols (tableIn nodes count) problem (Reading.Problem (8 + length symbols + 8 * count)) problem′
+  fine-delivered problem problem′ e p =
+      record {
+        answers = ap given (sym bytes-long) ∙ ap (λ (o : Option Refused). unless o (length bytes)) (e ∙ limits-of);
+        problem-after = p ∙ ap (λ (l : List ℕ). over l problem) front-is
+            ∙ ap (λ (o : Option Refused). unlessRefused o problem (over bytes problem)) (e ∙ limits-of);
+      }

@@ -1,19 +1,22 @@
 -- What is done when a text is read out (02, E1: "then what joins the asserts and the one negation, last", "then 01's 4, 9 and 10 on the
 -- result"). Assumes nothing.
 use mathlib.Core.Path.{_≡_}
-use Prim.Native.Nat.{ℕ, _≤_, _<_}
+use Prim.Native.Nat.{ℕ, _*_, _≤_, _<_}
 use mathlib.Core.Bool.{true, false}
 use mathlib.Core.List.{List}
 use mathlib.Core.Option.{Option, none, some}
 use lib.ListN.{length}
-use Rattle.definitions.specs.Lists.{snoc}
-use Rattle.definitions.specs.Problem.Node.{Node, plain}
-use Rattle.definitions.specs.Problem.Check.{Refused}
-use Rattle.definitions.specs.Operations.Buffers.{over}
-use Rattle.definitions.specs.Operations.Readings.{refusalRead}
+use Rattle.definitions.specs.Lists.{snoc, firstOf}
+use Rattle.definitions.specs.Problem.Node.{Node, plain, problemBytes}
+use Rattle.definitions.specs.Problem.Check.{nodesOf, Refused}
+use Rattle.definitions.specs.Operations.Answers.{unless}
+use Rattle.definitions.specs.Operations.Buffers.{over, unlessRefused}
+use Rattle.definitions.specs.Operations.Readings.{refusalRead, readingRead}
+use Rattle.definitions.specs.declared.Reading.{Reading}
 use Rattle.terms.specs.Laying.{tableIn}
 use Rattle.terms.specs.declared.nodes.Laying.{Laying}
 use Rattle.terms.specs.declared.nodes.Asked.{Asked}
+use Rattle.terms.proofs.ScriptLaws.{afterFour}
 use Rattle.text.specs.declared.ending.Limit.{Limit}
 
 -- the table with the negation of a node behind it
@@ -30,3 +33,16 @@ pub record Negated (nodes : List ℕ) (a : Asked) (r : Laying) (nodes′ : List 
 abbrev pub limitRead : Limit → Option Refused
 limitRead Limit.Fine = none
 limitRead (Limit.Refused r) = some (refusalRead r)
+
+-- the symbols and the nodes are as many as a problem may have, and the problem has room
+pub record Deliverable (problem symbols nodes : List ℕ) (count : ℕ) : Type 0 where
+  pub room : 2088 ≤ length problem
+  pub symbols-few : length symbols ≤ 32
+  pub nodes-long : length nodes ≡ 8 * count
+  pub some-nodes : 1 ≤ count
+  pub few-nodes : count ≤ 256
+
+-- 9 or 10, or the problem's length; a refusal writes nothing
+pub record Delivered (symbols : List ℕ) (t : List Node) (problem : List ℕ) (r : Reading) (problem′ : List ℕ) : Type 0 where
+  pub answers : readingRead r ≡ unless (firstOf (afterFour (nodesOf (problemBytes symbols t)))) (length (problemBytes symbols t))
+  pub problem-after : problem′ ≡ unlessRefused (firstOf (afterFour (nodesOf (problemBytes symbols t)))) problem (over (problemBytes symbols t) problem)

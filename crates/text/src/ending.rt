@@ -5,18 +5,21 @@ ghost use lib.ListN.{length, take};
 ghost use Rattle.definitions.specs.Lists.{firstOf};
 ghost use Rattle.definitions.specs.Problem.Check.{nodesOf};
 ghost use Rattle.problem.specs.Shape.{Shaped};
-ghost use Rattle.terms.specs.Laying.{TableFits, Performs};
+ghost use Rattle.terms.specs.Laying.{tableIn, TableFits, Performs};
 ghost use Rattle.terms.specs.Scripts.{joinedRoots};
 ghost use Rattle.terms.proofs.ScriptLaws.{afterFour};
-ghost use Rattle.text.specs.Ending.{limitRead, Negated};
+ghost use Rattle.text.specs.Ending.{limitRead, Negated, Deliverable, Delivered};
+use definitions::Reading;
 use definitions::Refusal;
 use elimination::put::put_node;
+use problem::bytes::put;
 use problem::bytes::wide;
 use problem::repeats::distinct;
 use terms::nodes::Asked;
 use terms::nodes::Laying;
 use terms::nodes::Node;
 use terms::nodes::ask;
+use terms::whole::put_problem;
 
 // Whether a problem's applications are few enough.
 enum Limit {
@@ -95,4 +98,22 @@ fn limits(whole: &[u8], symbols: usize, nodes: usize) -> Limit
         return Limit::Refused(Refusal::ManyPredicates);
     }
     Limit::Fine
+}
+
+// The problem of these symbols and nodes is written where it is within the limits.
+fn deliver(problem: &mut [u8], symbols: &[u8], nodes: &[u8], count: usize) -> Reading
+    requires { ⌜ Deliverable (now problem) (now symbols) (now nodes) count ⌝ }
+    ensures { λ r. ⌜ Delivered (now (symbols .entry)) (tableIn (now (nodes .entry)) count) (now (problem .entry)) r (now (problem .exit)) ⌝ }
+{
+    let mut whole = [0u8; 2088];
+    put_problem(&mut whole, symbols, nodes, count);
+    let written = 8 + symbols.len() + 8 * count;
+    let bytes = &whole[..written];
+    match limits(bytes, symbols.len(), count) {
+        Limit::Refused(refusal) => Reading::Refused(refusal),
+        Limit::Fine => {
+            put(problem, bytes);
+            Reading::Problem { written }
+        }
+    }
 }
