@@ -13,10 +13,11 @@ use Rattle.definitions.specs.Operations.Answers.{unless}
 use Rattle.definitions.specs.Operations.Buffers.{over, unlessRefused}
 use Rattle.definitions.specs.Operations.Readings.{refusalRead, readingRead}
 use Rattle.definitions.specs.declared.Reading.{Reading}
-use Rattle.terms.specs.Laying.{tableIn}
+use Rattle.terms.specs.Laying.{tableIn, TableFits}
 use Rattle.terms.specs.declared.nodes.Laying.{Laying}
 use Rattle.terms.specs.declared.nodes.Asked.{Asked}
 use Rattle.terms.proofs.ScriptLaws.{afterFour}
+use Rattle.text.specs.declared.scripts.Script.{Script}
 use Rattle.text.specs.declared.ending.Limit.{Limit}
 
 -- the table with the negation of a node behind it
@@ -46,3 +47,11 @@ pub record Deliverable (problem symbols nodes : List ℕ) (count : ℕ) : Type 0
 pub record Delivered (symbols : List ℕ) (t : List Node) (problem : List ℕ) (r : Reading) (problem′ : List ℕ) : Type 0 where
   pub answers : readingRead r ≡ unless (firstOf (afterFour (nodesOf (problemBytes symbols t)))) (length (problemBytes symbols t))
   pub problem-after : problem′ ≡ unlessRefused (firstOf (afterFour (nodesOf (problemBytes symbols t)))) problem (over (problemBytes symbols t) problem)
+
+-- what is asked of every call
+pub record Endable (problem symbols nodes roots : List ℕ) (s : Script) : Type 0 where
+  pub room : 2088 ≤ length problem
+  pub table-fits : TableFits nodes (s .laying .count)
+  pub asserts-few : s .asserts ≤ 256
+  pub symbols-long : length symbols ≡ 32
+  pub roots-long : length roots ≡ 256

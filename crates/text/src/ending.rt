@@ -1,14 +1,18 @@
 // What is done when a text is read out: what joins the asserts, the one negation, the limits, and the problem written.
 ghost use mathlib.Core.Path.{_≡_};
-ghost use Prim.Native.Nat.{_<_, _≤_};
+ghost use Prim.Native.Nat.{ℕ, _<_, _≤_};
+ghost use mathlib.Core.List.{List};
 ghost use lib.ListN.{length, take};
 ghost use Rattle.definitions.specs.Lists.{firstOf};
 ghost use Rattle.definitions.specs.Problem.Check.{nodesOf};
+ghost use Rattle.definitions.specs.Operations.Promises.{ReadPromise};
 ghost use Rattle.problem.specs.Shape.{Shaped};
 ghost use Rattle.terms.specs.Laying.{tableIn, TableFits, Performs};
 ghost use Rattle.terms.specs.Scripts.{joinedRoots};
 ghost use Rattle.terms.proofs.ScriptLaws.{afterFour};
-ghost use Rattle.text.specs.Ending.{limitRead, Negated, Deliverable, Delivered};
+ghost use Rattle.text.specs.Scripted.{ReadOut};
+ghost use Rattle.text.specs.Ending.{limitRead, Negated, Deliverable, Delivered, Endable};
+use crate::scripts::Script;
 use definitions::Reading;
 use definitions::Refusal;
 use elimination::put::put_node;
@@ -116,4 +120,31 @@ fn deliver(problem: &mut [u8], symbols: &[u8], nodes: &[u8], count: usize) -> Re
             Reading::Problem { written }
         }
     }
+}
+
+// A text that is read out becomes a problem, or is refused by 4, 9 or 10.
+pub fn end(
+    problem: &mut [u8],
+    symbols: &[u8],
+    nodes: &mut [u8],
+    roots: &[u8],
+    script: Script,
+) -> Reading
+    requires { ⌜ Endable (now problem) (now symbols) (now nodes) (now roots) script ⌝ }
+    ensures { λ r. ⌜ ((text shelf : List ℕ) → ReadOut text shelf (now (symbols .entry)) (now (nodes .entry)) (now (roots .entry)) script → ReadPromise text (now (problem .entry)) r (now (problem .exit))) ⌝ }
+{
+    let start = script.laying;
+    let asked = join(nodes, roots, script.asserts, start);
+    let laying = negate(nodes, asked);
+    if laying.over {
+        return Reading::Refused(Refusal::BadCounts);
+    }
+    let declared = script.declared;
+    let count = declared.count;
+    if 32 < count {
+        return Reading::Refused(Refusal::BadCounts);
+    }
+    let laid = laying.count;
+    let bytes = 8 * laid;
+    deliver(problem, &symbols[..count], &nodes[..bytes], laid)
 }
