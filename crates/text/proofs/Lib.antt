@@ -1,4 +1,6 @@
 pub mod AssertLaws
-pub mod CommandSteps
-pub mod ShelfLaws
 pub mod CheckLaws
+pub mod CommandSteps
+pub mod EndLaws
+pub mod FirstLaws
+pub mod ShelfLaws

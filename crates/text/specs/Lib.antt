@@ -1,7 +1,9 @@
-pub mod Commands
-pub mod Scripted
 pub mod Asserting
-pub mod Shelving
 pub mod Checking
+pub mod Commands
 pub mod Declaring
+pub mod Ending
+pub mod Readable
+pub mod Scripted
+pub mod Shelving
 pub mod Whole
