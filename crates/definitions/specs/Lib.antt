@@ -10,4 +10,5 @@ pub mod Witness
 pub mod Operations
 pub mod Text
 pub mod Night
+pub mod Solve
 pub mod Worked

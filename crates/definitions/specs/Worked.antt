@@ -4,3 +4,4 @@ pub mod Rows
 pub mod Tables
 pub mod Facts
 pub mod Texts
+pub mod Solved

@@ -1,18 +1,22 @@
-// The call from C: `eqp_decide` decides, and lays the answer down in 32 bytes, low byte first.
+// The calls from C: `eqp_decide` decides a problem, `eqp_read` reads one from a text, and both lay the answer down in 32 bytes, low
+// byte first.
 ghost use mathlib.Core.Path.{_≡_};
 ghost use Prim.Native.Nat.{_≤_};
 ghost use lib.ListN.{length};
 ghost use Rattle.definitions.specs.Bytes.{bytesOf};
-ghost use Rattle.definitions.specs.Operations.Host.{answerBytes, thirtyTwo};
+ghost use Rattle.definitions.specs.Operations.Host.{answerBytes, readBytes, thirtyTwo};
 ghost use Rattle.definitions.specs.Operations.Buffers.{over};
-ghost use Rattle.definitions.specs.Operations.Readings.{decisionRead};
-ghost use Rattle.definitions.specs.Operations.Promises.{HostPromise};
+ghost use Rattle.definitions.specs.Operations.Readings.{refusalRead, decisionRead, readingRead};
+ghost use Rattle.definitions.specs.Operations.Promises.{HostPromise, HostReadPromise};
 ghost use Rattle.host.specs.Replies.{headBytes, replyBytes};
 use decision::decide;
 use definitions::Decision;
+use definitions::Reading;
+use definitions::Refusal;
 use definitions::number_of;
 use definitions::place_of;
 use problem::bytes::put;
+use text::read;
 
 // The six numbers of the answer.
 struct Reply {
@@ -42,7 +46,30 @@ pub extern "C" fn eqp_decide(
     1
 }
 
-// A refusal has no values, and an answer no refusal.
+// A text's problem goes to its buffer. Where the answer buffer is short, nothing is read.
+#[no_mangle]
+pub extern "C" fn eqp_read(text: &[u8], problem: &mut [u8], answer: &mut [u8]) -> u32
+    ensures { λ r. ⌜ HostReadPromise (now (text .entry)) (now (problem .entry)) (now (answer .entry)) r (now (problem .exit)) (now (answer .exit)) ⌝ }
+{
+    if answer.len() < 32 {
+        return 0;
+    }
+    let reading = read(text, problem);
+    put_reply(answer, reading_reply(reading));
+    1
+}
+
+// The problem's length stands where the count of tried places does in a decision.
+fn reading_reply(reading: Reading) -> Reply
+    ensures { λ r. ⌜ replyBytes r ≡ readBytes (readingRead reading) ⌝ }
+{
+    match reading {
+        Reading::Problem { written } => answered(10, written as u64, 0, 0),
+        Reading::Refused(refusal) => refusing(refusal),
+    }
+}
+
+// An answer has no refusal.
 fn reply_of(decision: Decision) -> Reply
     ensures { λ r. ⌜ replyBytes r ≡ answerBytes (decisionRead decision) ⌝ }
 {
@@ -54,14 +81,21 @@ fn reply_of(decision: Decision) -> Reply
             written,
         } => answered(2, tried, product, written),
         Decision::Stopped { tried, product } => answered(3, tried, product, 0),
-        Decision::Refused(refusal) => Reply {
-            verdict: 0,
-            refusal: number_of(refusal),
-            written: 0,
-            place: place_of(refusal),
-            tried: 0,
-            product: 0,
-        },
+        Decision::Refused(refusal) => refusing(refusal),
+    }
+}
+
+// A refusal has no values.
+fn refusing(refusal: Refusal) -> Reply
+    ensures { λ r. ⌜ replyBytes r ≡ thirtyTwo 0 (refusalRead refusal .number) 0 (refusalRead refusal .place) 0 0 ⌝ }
+{
+    Reply {
+        verdict: 0,
+        refusal: number_of(refusal),
+        written: 0,
+        place: place_of(refusal),
+        tried: 0,
+        product: 0,
     }
 }
 

@@ -50,28 +50,28 @@ placed l i v h g =
     ∙ drop-at (take (i - 1) l) (v ∷ drop (suc (i - 1)) l) (i - 1) (length-take-le (i - 1) l (omega arith))
     ∙ ap (λ (k : ℕ). v ∷ drop k l) e
 
--- the digits from i on are placed, those of rest are to come, and there is room for them and a space
+-- the digits from i on are placed, those of rest are to come, and there is room for them
 pub record Spelling (n : ℕ) (ds : List ℕ) (i rest : ℕ) : Type 0 where
-  pub small : rest < 10 ^ (i - 1)
-  pub low : 2 ≤ i
-  pub high : i ≤ 21
+  pub small : rest < 10 ^ i
+  pub low : 1 ≤ i
+  pub high : i ≤ 20
   pub so-far : digits (suc rest) rest (drop i ds) ≡ decimal n
 
 shorter : (k rest : ℕ) → rest < 10 ^ suc k → 10 ≤ rest → (0 < k) × (rest / 10 < 10 ^ k)
 shorter zero rest h g = absurd (omega arith)
 shorter (suc k) rest h g = let e = pow-succ' 10 (suc k) in (omega arith, omega arith)
 
-pub spelling-none : (n : ℕ) (ds : List ℕ) → length ds ≡ 21 → n < 2 ^ 64 → Spelling n ds 21 n
+pub spelling-none : (n : ℕ) (ds : List ℕ) → length ds ≡ 20 → n < 2 ^ 64 → Spelling n ds 20 n
 spelling-none n ds l h =
-    record { small = omega arith; low = omega arith; high = omega arith; so-far = ap (digits (suc n) n) (drop-of-length-le ds {i = 21} (omega arith)) }
+    record { small = omega arith; low = omega arith; high = omega arith; so-far = ap (digits (suc n) n) (drop-of-length-le ds {i = 20} (omega arith)) }
 
-pub spelling-more : (n : ℕ) (ds : List ℕ) (i rest : ℕ) → length ds ≡ 21 → Spelling n ds i rest → 10 ≤ rest
+pub spelling-more : (n : ℕ) (ds : List ℕ) (i rest : ℕ) → length ds ≡ 20 → Spelling n ds i rest → 10 ≤ rest
     → Spelling n (set ds (i - 1) (48 + rest % 10)) (i - 1) (rest / 10)
 spelling-more n ds i rest l z h =
     let low = z .low in
     let high = z .high in
-    let e : i - 1 ≡ suc (i - 1 - 1) = omega arith in
-    let s = shorter (i - 1 - 1) rest (subst (λ (k : ℕ). rest < 10 ^ k) e (z .small)) h in
+    let e : i ≡ suc (i - 1) = omega arith in
+    let s = shorter (i - 1) rest (subst (λ (k : ℕ). rest < 10 ^ k) e (z .small)) h in
     record {
       small = s .1;
       low = let a = s .0 in omega arith;
@@ -82,8 +82,8 @@ spelling-more n ds i rest l z h =
           ∙ z .so-far;
     }
 
--- the last digit, and the space
-pub spelling-done : (n : ℕ) (ds : List ℕ) (i rest : ℕ) → length ds ≡ 21 → Spelling n ds i rest → rest < 10
+-- the last digit
+pub spelling-done : (n : ℕ) (ds : List ℕ) (i rest : ℕ) → length ds ≡ 20 → Spelling n ds i rest → rest < 10
     → drop (i - 1) (set ds (i - 1) (48 + rest)) ≡ decimal n
 spelling-done n ds i rest l z h =
     let low = z .low in

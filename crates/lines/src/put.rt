@@ -15,13 +15,12 @@ pub fn put(text: &mut [u8], at: usize, bytes: &[u8]) -> usize
     at + bytes.len()
 }
 
-// A space and the decimal digits of a number, laid from the end of the buffer, the low digit first. A 64-bit number has at
-// most 20 digits.
+// The decimal digits of a number, laid from the end of the buffer, the low digit first. A 64-bit number has at most 20.
 fn spell(n: u64, digits: &mut [u8]) -> usize
-    requires { ⌜ length (now digits) ≡ 21 ⌝ }
-    ensures { λ r. ⌜ (drop r (now (digits .exit)) ≡ word (decimal n)) × (r ≤ 21) ⌝ }
+    requires { ⌜ length (now digits) ≡ 20 ⌝ }
+    ensures { λ r. ⌜ (drop r (now (digits .exit)) ≡ decimal n) × (r ≤ 20) ⌝ }
 {
-    let mut i = 21;
+    let mut i = 20;
     let mut rest = n;
     while 10 <= rest {
         i -= 1;
@@ -30,9 +29,17 @@ fn spell(n: u64, digits: &mut [u8]) -> usize
     }
     i -= 1;
     digits[i] = 48 + rest as u8;
-    i -= 1;
-    digits[i] = 32;
     i
+}
+
+// The digits of a number.
+pub fn put_digits(text: &mut [u8], at: usize, n: u64) -> usize
+    requires { ⌜ at + 20 ≤ length (now text) ⌝ }
+    ensures { λ r. ⌜ Wrote (now (text .entry)) at (decimal n) (now (text .exit)) r × (r ≤ at + 20) ⌝ }
+{
+    let mut digits = [0u8; 20];
+    let from = spell(n, &mut digits);
+    put(text, at, &digits[from..])
 }
 
 // A space and a number.
@@ -40,7 +47,6 @@ pub fn put_number(text: &mut [u8], at: usize, n: u64) -> usize
     requires { ⌜ at + 21 ≤ length (now text) ⌝ }
     ensures { λ r. ⌜ Wrote (now (text .entry)) at (word (decimal n)) (now (text .exit)) r × (r ≤ at + 21) ⌝ }
 {
-    let mut digits = [0u8; 21];
-    let from = spell(n, &mut digits);
-    put(text, at, &digits[from..])
+    let at = put(text, at, b" ");
+    put_digits(text, at, n)
 }

@@ -35,7 +35,7 @@ fn skip(text: &[u8], at: usize) -> usize
 }
 
 // The name of a lexeme; the empty one if it has none.
-fn name_of(lexeme: Lexeme) -> Name
+pub fn name_of(lexeme: Lexeme) -> Name
     ensures { λ r. ⌜ r ≡ nameIn lexeme ⌝ }
 {
     match lexeme {

@@ -1,9 +1,7 @@
 -- `reply_of` gives the numbers of the answer's 32 bytes, case by case. Assumes nothing.
 use borrow.Author.Needs.{needs}
-use mathlib.Core.Path.{_≡_, sym, ap, ap₂, _∙_}
-use Prim.Native.Nat.{ℕ}
-use mathlib.Core.List.{List}
-use Rattle.definitions.specs.Operations.Host.{answerBytes, thirtyTwo}
+use mathlib.Core.Path.{_≡_, sym, ap, _∙_}
+use Rattle.definitions.specs.Operations.Host.{answerBytes}
 use Rattle.definitions.specs.Operations.Readings.{decisionRead}
 use Rattle.definitions.specs.declared.Decision.{Decision}
 use Rattle.host.proofs.reply_of.Statement.{statement}
@@ -34,11 +32,8 @@ answered-requires-3 c κs = search needs
 enum-known-decision-4 : tie.Need-enum-known-decision-4
 enum-known-decision-4 c = search needs
 
-number-of-requires : tie.Need-number-of-requires
-number-of-requires c κs = search needs
-
-place-of-requires : tie.Need-place-of-requires
-place-of-requires c κs = search needs
+refusing-requires : tie.Need-refusing-requires
+refusing-requires c κs = search needs
 
 returns : tie.Need-returns
 returns c = c .answered .ensures ∙ bytes-of (c .before .before .decision .given .1)
@@ -50,9 +45,7 @@ returns-3 : tie.Need-returns-3
 returns-3 c = c .answered3 .ensures ∙ bytes-of (c .before .before .decision3 .given .1)
 
 returns-4 : tie.Need-returns-4
-returns-4 c =
-    ap₂ {C = List ℕ} (λ number place. thirtyTwo 0 number 0 place 0 0) (c .before .number-of .ensures) (c .place-of .ensures)
-    ∙ bytes-of (c .before .before .before .decision4 .given .1)
+returns-4 c = c .refusing .ensures ∙ bytes-of (c .before .before .decision4 .given .1)
 
 pub reply-of-spec : {M : Type 1} → statement M
 reply-of-spec =
@@ -65,8 +58,7 @@ reply-of-spec =
     enum-known-decision-3
     answered-requires-3
     enum-known-decision-4
-    number-of-requires
-    place-of-requires
+    refusing-requires
     returns
     returns-2
     returns-3

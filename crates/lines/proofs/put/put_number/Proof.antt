@@ -1,58 +1,27 @@
--- `put_number` puts a space and a number: the part of the buffer that `spell` filled is copied whole. Assumes nothing.
+-- `put_number` puts a space and the digits. Assumes nothing.
 use borrow.Author.Needs.{needs}
 use native.Mathlib.Omega.{arith}
-use mathlib.Core.Path.{_≡_, ap, _∙_}
-use Prim.Native.Nat.{_-_}
-use lib.ListN.{length, drop, length-drop}
-use lib.Seq.{take-all}
-use Rattle.lines.proofs.Writing.{wrote-as}
+use Rattle.lines.proofs.Writing.{wrote-more}
 use Rattle.lines.proofs.put.put_number.Statement.{statement}
 use Rattle.lines.proofs.put.put_number.Tie as tie
 
-slice-aggregate-spell : tie.Need-slice-aggregate-spell
-slice-aggregate-spell c = search needs
-
-spell-requires : tie.Need-spell-requires
-spell-requires c κs = search needs
-
-sub-put : tie.Need-sub-put
-sub-put c = search needs
-
-part-put-start : tie.Need-part-put-start
-part-put-start c = search needs
-
-part-put-end : tie.Need-part-put-end
-part-put-end c = search needs
+slice-aggregate-put : tie.Need-slice-aggregate-put
+slice-aggregate-put c = search needs
 
 put-requires : tie.Need-put-requires
 put-requires c κs = search needs
+
+put-digits-requires : tie.Need-put-digits-requires
+put-digits-requires c κs = search needs
 
 same-length : tie.Need-same-length
 same-length c = search needs
 
 returns : tie.Need-returns
 returns c =
-    let s = c .before .before .before .before .before .before .before .before .before .before .args in
-    let spelt = c .before .before .before .before .before .before .before .spell in
-    let from = spelt .result in
-    let ds = spelt .last .1 .0 in
-    let l = length-drop from ds in
-    let kept : length ds ≡ 21 = spelt .kept .1 .0 in
-    let small = spelt .ensures .1 in
-    let all = take-all (21 - from) (drop from ds) (omega arith) in
-    let wrote = c .before .before .put .ensures in
-    let ends = wrote .ends in
-    (wrote-as wrote (all ∙ spelt .ensures .0), omega (arith, ap length all))
+    let space = c .before .before .before .before .before .before .put .ensures in
+    let digits = c .before .before .put-digits .ensures in
+    (wrote-more space (digits .0), omega arith)
 
 pub put-number-spec : {M : Type 1} → statement M
-put-number-spec =
-    tie.close
-    (tie.spec
-    slice-aggregate-spell
-    spell-requires
-    sub-put
-    part-put-start
-    part-put-end
-    put-requires
-    same-length
-    returns)
+put-number-spec = tie.close (tie.spec slice-aggregate-put put-requires put-digits-requires same-length returns)

@@ -1,16 +1,15 @@
--- `spell` lays a space and the digits of a number at the end of the buffer: what is laid, with the digits that are to come,
+-- `spell` lays the digits of a number at the end of the buffer: what is laid, with the digits that are to come,
 -- is the whole number at each turn. Assumes nothing.
 use native.Mathlib.Omega.{arith}
-use mathlib.Core.Path.{_≡_, sym, ap, _∙_}
+use mathlib.Core.Path.{_≡_, sym, _∙_}
 use Prim.Native.Nat.{_+_, _-_, _%_}
-use lib.ListN.{length, set, length-set}
-use Rattle.definitions.specs.Night.{word}
-use Rattle.lines.proofs.Spelling.{Spelling, placed, spelling-none, spelling-more, spelling-done}
+use lib.ListN.{length, length-set}
+use Rattle.lines.proofs.Spelling.{Spelling, spelling-none, spelling-more, spelling-done}
 use Rattle.lines.proofs.put.spell.Statement.{statement}
 use Rattle.lines.proofs.put.spell.Tie as tie
 
 abbrev Inv-loop : tie.InvT-loop
-Inv-loop n digits₀ i₀ rest₀ digits i rest = (length digits ≡ 21) × Spelling n digits i rest
+Inv-loop n digits₀ i₀ rest₀ digits i rest = (length digits ≡ 20) × Spelling n digits i rest
 
 abbrev μ-loop : tie.MeasureT-loop
 μ-loop n digits₀ i₀ rest₀ digits i rest = rest
@@ -53,35 +52,16 @@ add-digits-2 c = omega arith
 slice-write-digits-2 : tie.Need-slice-write-digits-2 Inv-loop μ-loop
 slice-write-digits-2 c = omega arith
 
-sub-i-3 : tie.Need-sub-i-3 Inv-loop μ-loop
-sub-i-3 c = omega arith
-
-slice-write-digits-3 : tie.Need-slice-write-digits-3 Inv-loop μ-loop
-slice-write-digits-3 c =
-    let s = c .before .loop in
-    let l = s .inv .0 in
-    let z = s .inv .1 in
-    omega (arith, length-set (s .digits) (s .i - 1) (48 + s .rest))
-
 same-length : tie.Need-same-length Inv-loop μ-loop
 same-length c =
     let s = c .before .loop in
-    length-set (set (s .digits) (s .i - 1) (48 + s .rest)) (s .i - 1 - 1) 32
-    ∙ length-set (s .digits) (s .i - 1) (48 + s .rest)
-    ∙ s .inv .0
-    ∙ sym (c .before .before .pre)
+    length-set (s .digits) (s .i - 1) (48 + s .rest) ∙ s .inv .0 ∙ sym (c .before .before .pre)
 
 returns : tie.Need-returns Inv-loop μ-loop
 returns c =
     let s = c .before .loop in
-    let n = c .before .before .args .n in
-    let l = s .inv .0 in
     let z = s .inv .1 in
-    let ds = set (s .digits) (s .i - 1) (48 + s .rest) in
-    let m = length-set (s .digits) (s .i - 1) (48 + s .rest) in (
-      placed ds (s .i - 1) 32 (omega arith) (omega arith) ∙ ap word (spelling-done n (s .digits) (s .i) (s .rest) l z (omega arith)),
-      omega arith,
-    )
+    (spelling-done (c .before .before .args .n) (s .digits) (s .i) (s .rest) (s .inv .0) z (omega arith), omega arith)
 
 pub spell-spec : {M : Type 1} → statement M
 spell-spec =
@@ -100,7 +80,5 @@ spell-spec =
     cast-digits-2
     add-digits-2
     slice-write-digits-2
-    sub-i-3
-    slice-write-digits-3
     same-length
     returns)

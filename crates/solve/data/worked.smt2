@@ -1,0 +1,1 @@
+(set-logic QF_UF)(declare-sort U 0)(declare-fun x () U)(declare-fun y () U)(declare-fun f (U) U)(assert (= x y))(assert (not (= (f x) (f y))))(check-sat)

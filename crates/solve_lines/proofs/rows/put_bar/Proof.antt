@@ -1,0 +1,45 @@
+-- By whether there are bars. Assumes nothing.
+use native.Mathlib.Omega.{arith}
+use mathlib.Core.Path.{sym, ap}
+use Rattle.definitions.specs.Solve.{bar}
+use Rattle.lines.proofs.Writing.{wrote-as}
+use borrow.Author.Needs.{needs}
+use Rattle.solve_lines.proofs.rows.put_bar.Statement.{statement}
+use Rattle.solve_lines.proofs.rows.put_bar.Tie as tie
+
+slice-aggregate-put : tie.Need-slice-aggregate-put
+slice-aggregate-put c = search needs
+
+put-requires : tie.Need-put-requires
+put-requires c κs = search needs
+
+same-length : tie.Need-same-length
+same-length c = search needs
+
+returns : tie.Need-returns
+returns c = (wrote-as (c .before .before .put .ensures) (sym (ap bar (c .before .before .before .before .before .if1 .taken))), omega (arith, c .before .before .put .ensures .ends))
+
+slice-aggregate-put-2 : tie.Need-slice-aggregate-put-2
+slice-aggregate-put-2 c = search needs
+
+put-requires-2 : tie.Need-put-requires-2
+put-requires-2 c κs = search needs
+
+same-length-2 : tie.Need-same-length-2
+same-length-2 c = search needs
+
+returns-2 : tie.Need-returns-2
+returns-2 c = (wrote-as (c .before .before .put2 .ensures) (sym (ap bar (c .before .before .before .before .before .if1 .left))), omega (arith, c .before .before .put2 .ensures .ends))
+
+pub put-bar-spec : {M : Type 1} → statement M
+put-bar-spec =
+    tie.close
+    (tie.spec
+    slice-aggregate-put
+    put-requires
+    same-length
+    returns
+    slice-aggregate-put-2
+    put-requires-2
+    same-length-2
+    returns-2)
