@@ -4,8 +4,8 @@
 //! [`host::decide`] hands it to the proved checker (`libhost.a`, made by `rt staticlib host`),
 //! which answers valid, falsified with tables that make the formula false, stopped where the
 //! budget ends first, or refused. [`reference::decide`] is a second implementation, written from
-//! document 01 alone; the tests compare the two on many generated problems. [`reference::read`]
-//! makes a problem of solver text, SMT-LIB 2.6 (document 02, E1).
+//! document 01 alone; the tests compare the two on many generated problems. [`host::read`] and
+//! [`reference::read`] make a problem of solver text, SMT-LIB 2.6 (document 02, E1).
 //!
 //! ```
 //! use eqp::problem::Problem;

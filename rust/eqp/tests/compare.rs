@@ -183,13 +183,7 @@ fn half(seed: u64) -> Tally<Call> {
 #[test]
 fn library_and_reference_agree() {
     let start = Instant::now();
-    let mut tally = Tally::new(CALLS);
-    thread::scope(|scope| {
-        let halves = [1, 2].map(|seed| scope.spawn(move || half(seed)));
-        for half in halves {
-            tally.join(&half.join().expect("the halves agree"));
-        }
-    });
+    let tally = Tally::of_halves(CALLS, half);
     notice(&format!("compared in {:.1?}", start.elapsed()));
     println!("{tally}");
     tally.expect_enough();

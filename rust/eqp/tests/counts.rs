@@ -10,6 +10,7 @@ use counted::calls::Call;
 use counted::facts::{only_flaw, Facts, Flaw};
 use counted::floors::CALLS;
 use counted::lines::{Line, ENDS, LINES};
+use counted::readings::READINGS;
 use counted::tally::{Row, Tally};
 use eqp::problem::Problem;
 use eqp::samples::{ackermann, row, three_tests, variables};
@@ -54,6 +55,7 @@ fn nothing_is_too_few() {
     assert_eq!(Tally::new(CALLS).short().len(), CALLS.len());
     assert_eq!(Tally::new(LINES).short().len(), LINES.len());
     assert_eq!(Tally::new(ENDS).short().len(), ENDS.len());
+    assert_eq!(Tally::new(READINGS).short().len(), READINGS.len());
 }
 
 /// What is counted of a call with two truths for a problem, as plain as can be.

@@ -12,8 +12,8 @@ use std::fs;
 use std::path::{Path, PathBuf};
 use std::process::ExitCode;
 
+use eqp::host::read;
 use eqp::jobs::Jobs;
-use eqp::reference::read;
 use eqp::{Reading, PROBLEM_LEN};
 
 /// The budget of every job, where none is given.

@@ -27,36 +27,50 @@ impl Lengths {
 
     /// Mostly long enough: each buffer is exact, a byte short, empty, or longer.
     pub fn any(rng: &mut Rng) -> Self {
-        let around = |rng: &mut Rng, exact: usize| match rng.below(24) {
-            0 => exact - 1,
-            1 => rng.below(exact),
-            2 => 0,
-            3..=12 => exact + rng.within(1, 40),
-            _ => exact,
-        };
         Self {
             work: around(rng, WORK_LEN),
             witness: around(rng, WITNESS_LEN),
-            answer: match rng.below(24) {
-                0 => 0,
-                1 => ANSWER_LEN - 1,
-                2..=9 => 40,
-                _ => ANSWER_LEN,
-            },
+            answer: answer_length(rng),
         }
     }
 }
 
+/// A length that is mostly enough, where this one is wanted.
+pub fn around(rng: &mut Rng, exact: usize) -> usize {
+    match rng.below(24) {
+        0 => exact - 1,
+        1 => rng.below(exact),
+        2 => 0,
+        3..=12 => exact + rng.within(1, 40),
+        _ => exact,
+    }
+}
+
+/// The length of an answer buffer, mostly enough.
+pub fn answer_length(rng: &mut Rng) -> usize {
+    match rng.below(24) {
+        0 => 0,
+        1 => ANSWER_LEN - 1,
+        2..=9 => 40,
+        _ => ANSWER_LEN,
+    }
+}
+
+/// Bytes to start buffers from.
+pub fn noise(rng: &mut Rng) -> Vec<u8> {
+    (0..80_000).map(|_| rng.next() as u8).collect()
+}
+
 /// A slice to lend, with guard bytes around it.
 #[derive(Clone, PartialEq, Eq)]
-struct Lent {
+pub struct Lent {
     bytes: Vec<u8>,
     start: usize,
     length: usize,
 }
 
 impl Lent {
-    fn empty() -> Self {
+    pub fn empty() -> Self {
         Self {
             bytes: Vec::new(),
             start: 0,
@@ -65,7 +79,7 @@ impl Lent {
     }
 
     /// Takes new bytes from the noise, at an odd place of the memory as often as not.
-    fn refill(&mut self, noise: &[u8], at: usize, length: usize) {
+    pub fn refill(&mut self, noise: &[u8], at: usize, length: usize) {
         self.bytes.clear();
         self.bytes
             .extend_from_slice(&noise[at..at + length + 2 * GUARD]);
@@ -73,8 +87,26 @@ impl Lent {
         self.length = length;
     }
 
-    fn slice(&mut self) -> &mut [u8] {
+    pub fn slice(&mut self) -> &mut [u8] {
         &mut self.bytes[self.start..self.start + self.length]
+    }
+
+    /// What the slice held when it was filled from this place of the noise.
+    pub fn before<'a>(&self, noise: &'a [u8], at: usize) -> &'a [u8] {
+        &noise[at + self.start..][..self.length]
+    }
+
+    /// Says from which byte on two buffers of this name differ, if they do.
+    pub fn tell_difference(&self, other: &Self, name: &str) {
+        if let Some(at) = self
+            .bytes
+            .iter()
+            .zip(&other.bytes)
+            .position(|(a, b)| a != b)
+        {
+            let at = at as isize - self.start as isize;
+            eprintln!("the {name} buffers differ from byte {at} on");
+        }
     }
 }
 
@@ -137,7 +169,7 @@ pub struct Lender {
 
 impl Lender {
     pub fn new(rng: &mut Rng, reference: Decide, library: Raw) -> Self {
-        let noise = (0..80_000).map(|_| rng.next() as u8).collect();
+        let noise = noise(rng);
         let buffers = Buffers(std::array::from_fn(|_| Lent::empty()));
         Self {
             reference,
@@ -165,12 +197,11 @@ impl Lender {
         if returned != u32::from(answer.is_some()) || self.ours != self.theirs {
             self.differ(budget, lengths, answer, returned);
         }
-        let before = |length: usize| &self.noise[at + GUARD - at % 8..][..length];
         let [_, work, witness, _] = &mut self.ours.0;
         let done = Done {
             answer,
-            work: (before(lengths.work), work.slice()),
-            witness: (before(lengths.witness), witness.slice()),
+            work: (work.before(&self.noise, at), work.slice()),
+            witness: (witness.before(&self.noise, at), witness.slice()),
         };
         expect_effects(problem, &done);
         done
@@ -179,11 +210,7 @@ impl Lender {
     fn differ(&mut self, budget: u64, lengths: Lengths, answer: Option<Answer>, returned: u32) {
         let names = ["problem", "work", "witness", "answer"];
         for (i, name) in names.into_iter().enumerate() {
-            let (ours, theirs) = (&self.ours.0[i].bytes, &self.theirs.0[i].bytes);
-            if let Some(at) = ours.iter().zip(theirs).position(|(a, b)| a != b) {
-                let at = at as isize - self.ours.0[i].start as isize;
-                eprintln!("the {name} buffers differ from byte {at} on");
-            }
+            self.ours.0[i].tell_difference(&self.theirs.0[i], name);
         }
         let theirs = self.theirs.0[3].slice().to_vec();
         let problem = self.ours.0[0].slice();

@@ -5,6 +5,7 @@
 pub mod both;
 pub mod effects;
 pub mod lend;
+pub mod lend_text;
 pub mod notice;
 pub mod readers;
 pub mod replay;

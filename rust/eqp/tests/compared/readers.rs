@@ -1,12 +1,12 @@
 //! The readers of texts, called alike.
 
-use eqp::{reference, Reading, PROBLEM_LEN};
+use eqp::{host, reference, Reading, PROBLEM_LEN};
 
 use super::both::{expect_start, FILL};
 
 pub type Read = fn(&[u8], &mut [u8]) -> Reading;
 
-pub const READERS: [(&str, Read); 1] = [("reference", reference::read)];
+pub const READERS: [(&str, Read); 2] = [("library", host::read), ("reference", reference::read)];
 
 /// What most texts begin with, and what all end with.
 pub const HEAD: &str = "(set-logic QF_UF)(declare-sort U 0)";

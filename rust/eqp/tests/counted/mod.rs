@@ -6,4 +6,5 @@ pub mod calls;
 pub mod facts;
 pub mod floors;
 pub mod lines;
+pub mod readings;
 pub mod tally;

@@ -1,7 +1,7 @@
 //! Counts of what came up, each with a floor: a generator that no longer makes something fails
 //! the test, instead of leaving it untried.
 
-use std::fmt;
+use std::{fmt, thread};
 
 /// What is counted: its name, whether a thing is one of them, and how many there must be.
 pub type Row<T> = (&'static str, fn(&T) -> bool, u64);
@@ -30,6 +30,18 @@ impl<T> Tally<T> {
         for (count, more) in self.counts.iter_mut().zip(&other.counts) {
             *count += more;
         }
+    }
+
+    /// The counts of two halves, made at once from the seeds 1 and 2.
+    pub fn of_halves(rows: &'static [Row<T>], half: fn(u64) -> Self) -> Self {
+        let mut tally = Self::new(rows);
+        thread::scope(|scope| {
+            let halves = [1, 2].map(|seed| scope.spawn(move || half(seed)));
+            for half in halves {
+                tally.join(&half.join().expect("the halves agree"));
+            }
+        });
+        tally
     }
 
     /// The names of the rows that something was counted in.

@@ -4,7 +4,7 @@ use std::io;
 use std::time::{Duration, Instant};
 
 use eqp::workloads::texts::{self, Text};
-use eqp::{reference, Reading, PROBLEM_LEN};
+use eqp::{host, reference, Reading, PROBLEM_LEN};
 
 use crate::timing::{medians, repeats, run_z3, without_z3};
 
@@ -39,25 +39,27 @@ impl Side {
 
 /// Prints a line for each side and the small texts, and one for each long text.
 pub fn bench() {
-    let mut reference = Side {
-        read: reference::read,
-        sum: 0,
-    };
-    bench_small(&mut reference);
+    let side = |read| Side { read, sum: 0 };
+    let (mut library, mut reference) = (side(host::read), side(reference::read));
+    bench_small(&mut library, &mut reference);
     println!(
-        "{:<28} {:>6} {:>14} {:>14}",
-        "text", "bytes", "reference us", "z3's parse us"
+        "{:<28} {:>6} {:>11} {:>11} {:>6} {:>11}",
+        "text", "bytes", "library us", "reference", "ratio", "z3's parse"
     );
     for text in texts::long() {
-        bench_long(&mut reference, &text);
+        bench_long(&mut library, &mut reference, &text);
     }
+    assert_eq!(library.sum, reference.sum);
 }
 
-fn bench_small(reference: &mut Side) {
+fn bench_small(library: &mut Side, reference: &mut Side) {
     let small = texts::small(TEXTS);
     let slices: Vec<&[u8]> = small.iter().map(|text| &text[..]).collect();
-    let [theirs] = medians([&mut || reference.time(&slices, 1)]);
+    let [ours, theirs] = medians([&mut || library.time(&slices, 1), &mut || {
+        reference.time(&slices, 1)
+    }]);
     println!("{TEXTS} small texts, in texts per second:");
+    println!("  library   {:>10.0}", TEXTS as f64 / ours);
     println!("  reference {:>10.0}", TEXTS as f64 / theirs);
     match parse(&slices[..FOR_Z3]) {
         Ok(time) => println!("  z3's parse {:>9.0}", FOR_Z3 as f64 / time),
@@ -65,20 +67,23 @@ fn bench_small(reference: &mut Side) {
     }
 }
 
-fn bench_long(reference: &mut Side, text: &Text) {
+fn bench_long(library: &mut Side, reference: &mut Side, text: &Text) {
     let slices = [&text.bytes[..]];
-    let times = repeats(reference.time(&slices, 1));
-    let [theirs] = medians([&mut || reference.time(&slices, times)]);
-    let z3 = parse(&[slices[0]; LONG_FOR_Z3]);
+    let slower = library.time(&slices, 1).max(reference.time(&slices, 1));
+    let times = repeats(slower);
+    let [ours, theirs] = medians([&mut || library.time(&slices, times), &mut || {
+        reference.time(&slices, times)
+    }]);
+    let per_text = |time: f64| time * 1e6 / times as f64;
+    let z3 = parse(&[slices[0]; LONG_FOR_Z3]).map(|time| time * 1e6 / LONG_FOR_Z3 as f64);
     println!(
-        "{:<28} {:>6} {:>14.0} {:>14}",
+        "{:<28} {:>6} {:>11.0} {:>11.0} {:>6.2} {:>11}",
         text.name,
         text.bytes.len(),
-        theirs * 1e6 / times as f64,
-        z3.map_or_else(
-            |_| "-".to_string(),
-            |time| format!("{:.0}", time * 1e6 / LONG_FOR_Z3 as f64)
-        ),
+        per_text(ours),
+        per_text(theirs),
+        theirs / ours,
+        z3.map_or_else(|_| "-".to_string(), |time| format!("{time:.0}")),
     );
 }
 
