@@ -124,7 +124,7 @@ fn threads_do_not_disturb_each_other() {
     });
 }
 
-/// A caller owes the call 128 KiB of stack, and no more for terms that nest to the full depth.
+/// A caller owes the call 256 KiB of stack, and no more for terms that nest to the full depth.
 #[test]
 fn small_stack() {
     let read_all = || {
@@ -133,7 +133,7 @@ fn small_stack() {
             host::read(&text.bytes, &mut problem);
         }
     };
-    let thread = thread::Builder::new().stack_size(128 << 10);
+    let thread = thread::Builder::new().stack_size(256 << 10);
     let thread = thread.spawn(read_all).expect("the thread starts");
     thread.join().expect("the thread ends");
 }
