@@ -218,15 +218,13 @@ module _ {text shelf symbols nodes roots : List ℕ} {s : Script} {at : ℕ} (in
           where
             go : (s .asserts < 256) ⊎ (256 ≤ s .asserts) → Scripted text shelf symbols nodes′ roots′ r × (s .declared .command < r .declared .command)
             go (inl p) =
-                let k = keeps .kept p in
-                (
+                let k = keeps .kept p in (
                   subst (λ (z : List ℕ). Scripted text shelf symbols nodes′ z r) (sym (k .1)) (subst (λ (z : Script). Scripted text shelf symbols nodes′ (set roots (s .asserts) (a .number)) z) (sym (k .0)) (kept-so p)),
                   subst (λ (z : Script). s .declared .command < z .declared .command) (sym (k .0)) further,
                 )
             go (inr p) =
                 let e : s .asserts ≡ 256 = (let f = inside .sound .asserts-few in omega arith) in
-                let k = keeps .full e in
-                (
+                let k = keeps .full e in (
                   subst (λ (z : List ℕ). Scripted text shelf symbols nodes′ z r) (sym (k .1)) (subst (λ (z : Script). Scripted text shelf symbols nodes′ roots z) (sym (k .0)) (full-so e)),
                   subst (λ (z : Script). s .declared .command < z .declared .command) (sym (k .0)) further,
                 )

@@ -85,8 +85,7 @@ returns c =
 read-term-requires : tie.Need-read-term-requires
 read-term-requires c κs =
     let s = c .before .before .before .before .before .before .before .before .before in
-    let lexed = c .before .before .before .before .next in
-    (
+    let lexed = c .before .before .before .before .next in (
       record {
         declared-sound = s .pre .declared-sound;
         token-inside = lexed .ensures .inside;

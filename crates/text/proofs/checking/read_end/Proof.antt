@@ -65,8 +65,8 @@ returns c =
     let known = c .before .before .before in
     let lexed = c .before .before .next in
     λ sn cs r.
-        finishes (text (exacts known)) (inFinished sn cs) (closed known) (finishing known sn cs r) (lexed .result) (lexed .ensures)
-        (ap (lexemeRead (text (exacts known))) (c .enum-told .given .1)) refl
+    finishes (text (exacts known)) (inFinished sn cs) (closed known) (finishing known sn cs r) (lexed .result) (lexed .ensures)
+    (ap (lexemeRead (text (exacts known))) (c .enum-told .given .1)) refl
 
 returns-2 : tie.Need-returns-2
 returns-2 c =

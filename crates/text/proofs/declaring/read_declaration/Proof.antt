@@ -70,7 +70,7 @@ returns : tie.Need-returns
 returns c =
     let F = c .before .before .before in
     λ nodes roots inside.
-        subst (FunctionIs (text F) (nameOf (text F) (begin F .args .script .declared .sort)) (inside .commands)) (c .before .place .given .1) (function-is F nodes roots inside)
+    subst (FunctionIs (text F) (nameOf (text F) (begin F .args .script .declared .sort)) (inside .commands)) (c .before .place .given .1) (function-is F nodes roots inside)
 
 same-length-2 : tie.Need-same-length-2
 same-length-2 c = search needs
@@ -84,15 +84,15 @@ returns-2 c =
     let known = kept .before .before .before in
     let F = call known in
     λ nodes roots inside.
-        kept .shelve .ensures (text F) nodes roots (inside .commands)
-        (record {
-          sound = inside .sound;
-          named = sound known .0;
-          inside = sound known .2;
-          further = omega (arith, inside .further, sound known .3);
-          so = inside .so;
-          read = subst (FunctionIs (text F) (nameOf (text F) (begin F .args .script .declared .sort)) (inside .commands)) (is-read known) (function-is F nodes roots inside);
-        })
+    kept .shelve .ensures (text F) nodes roots (inside .commands)
+    (record {
+      sound = inside .sound;
+      named = sound known .0;
+      inside = sound known .2;
+      further = omega (arith, inside .further, sound known .3);
+      so = inside .so;
+      read = subst (FunctionIs (text F) (nameOf (text F) (begin F .args .script .declared .sort)) (inside .commands)) (is-read known) (function-is F nodes roots inside);
+    })
 
 pub read-declaration-spec : {M : Type 1} → statement M
 read-declaration-spec =
