@@ -4,11 +4,11 @@ use mathlib.Core.Path.{_≡_, refl, sym, ap, _∙_, subst}
 use Prim.Native.Nat.{ℕ, suc, _+_, _≤_, _<_}
 use native.Mathlib.Numerals.{add-one}
 use native.Mathlib.Omega.{arith}
-use mathlib.Core.Bool.{Bool, true, false, true≢false, false≢true}
+use mathlib.Core.Bool.{Bool, true, false, true≢false}
 use mathlib.Core.List.{List, [], _∷_}
 use mathlib.Core.Logic.{_⊎_, inl, inr}
 use mathlib.Core.Option.{some}
-use lib.ListN.{length, take, set, length-set, length-append}
+use lib.ListN.{length, take, set, length-set}
 use lib.Seq.{take-suc-set}
 use Rattle.definitions.specs.Lists.{snoc}
 use Rattle.definitions.specs.Problem.Node as table
@@ -22,16 +22,15 @@ use Rattle.theorems.proofs.Text.Meant.Shared.{Earlier}
 use Rattle.terms.specs.Lexing.{nameOf, lexemeRead, Lexed}
 use Rattle.terms.specs.Reading.{Reached, WrongAt, isToken}
 use Rattle.terms.specs.Symbols.{Symbols, Shelved, DeclaredSound, atCommand}
-use Rattle.terms.specs.Laying.{tableIn, TableFits, Performs}
+use Rattle.terms.specs.Laying.{tableIn, TableFits}
 use Rattle.terms.specs.Scripts.{rootsOf, treesIn, tableAfter, rootsAfter, TooMuch}
-use Rattle.terms.specs.Terms.{inList, TableGood, TermWanted, TermRead}
+use Rattle.terms.specs.Terms.{TableGood, TermWanted, TermRead}
 use Rattle.terms.specs.declared.tokens.Token.{Token}
-use Rattle.terms.specs.declared.nodes.Laying.{Laying}
 use Rattle.terms.specs.declared.nodes.Asked.{Asked}
 use Rattle.terms.proofs.SymbolLaws.{reached-ready}
 use Rattle.terms.proofs.TermSteps.{none-wanted, assert-closes}
-use Rattle.terms.proofs.ScriptLaws.{lay-all-snoc, roots-snoc, trees-assert, symbols-assert, bytes-assert, table-good, table-earlier, roots-many, much-nodes, much-asserts, much-on}
-use Rattle.text.specs.Scripted.{ScriptSound, ScriptSo, Scripted, Inside}
+use Rattle.terms.proofs.ScriptLaws.{lay-all-snoc, roots-snoc, trees-assert, symbols-assert, bytes-assert, table-good, table-earlier, much-nodes, much-asserts, much-on}
+use Rattle.text.specs.Scripted.{ScriptSo, Scripted, Inside}
 use Rattle.text.specs.Asserting.{movedTo, Keeps, inAsserting}
 use Rattle.text.specs.declared.scripts.Script.{Script}
 

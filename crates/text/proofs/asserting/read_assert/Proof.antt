@@ -1,20 +1,18 @@
 -- The term, and its closing bracket. Assumes nothing.
 use mathlib.Core.Path.{_≡_, refl, sym, ap, _∙_, subst}
-use Prim.Native.Nat.{ℕ, _≤_, _<_}
+use Prim.Native.Nat.{ℕ, _<_}
 use native.Mathlib.Omega.{arith}
 use mathlib.Core.Bool.{true}
 use mathlib.Core.List.{List, []}
-use lib.ListN.{length}
 use Rattle.definitions.specs.Text.Tokens.{closing}
 use Rattle.definitions.specs.Text.Grammar.{end, oneFormula}
 use Rattle.terms.specs.Lexing.{nameOf, lexemeRead}
 use Rattle.terms.specs.Reading.{WrongAt, Exactly}
 use Rattle.terms.specs.Laying.{TableFits}
-use Rattle.terms.specs.Terms.{TermSays, TermSound, TermRead}
-use Rattle.terms.specs.declared.exact.Step.{Step}
+use Rattle.terms.specs.Terms.{TermSays, TermSound}
 use Rattle.terms.specs.declared.nodes.Asked.{Asked}
 use Rattle.terms.specs.declared.terms.Term.{Term}
-use Rattle.terms.proofs.LexemeLaws.{lexeme-fits, no-closing, exactly-later}
+use Rattle.terms.proofs.LexemeLaws.{lexeme-fits, no-closing}
 use Rattle.terms.proofs.TermSteps.{closed-early}
 use Rattle.text.specs.Scripted.{Inside}
 use Rattle.text.specs.Asserting.{Keeps, inAsserting}
