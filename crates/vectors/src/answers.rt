@@ -1,6 +1,5 @@
 // One line for each operation on a problem: what it answers, or what it wrote.
 use crate::draft::Draft;
-use crate::print;
 use definitions::Checked;
 use definitions::Decision;
 use definitions::Eliminated;

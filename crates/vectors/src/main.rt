@@ -5,7 +5,6 @@ mod budgets;
 mod draft;
 mod examples;
 mod limits;
-mod print;
 mod refusals;
 mod rows;
 mod worked;

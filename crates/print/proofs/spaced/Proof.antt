@@ -1,10 +1,10 @@
--- `vectors::print::spaced` is safe and ends. Nothing has to hold from turn to turn; the measure is what is left of the slice.
+-- `spaced` is safe and ends. Nothing has to hold from turn to turn; the measure is what is left of the slice.
 -- Assumes nothing.
 use Prim.Native.Nat.{_-_}
 use borrow.Author.Needs.{needs}
 use lib.ListN.{length}
-use Rattle.vectors.proofs.print.spaced.Statement.{statement}
-use Rattle.vectors.proofs.print.spaced.Tie as tie
+use Rattle.print.proofs.spaced.Statement.{statement}
+use Rattle.print.proofs.spaced.Tie as tie
 
 abbrev Inv-loop : tie.InvT-loop
 Inv-loop all base i₀ i = Unit {0}

@@ -1,4 +1,4 @@
-// Lines on standard output.
+// Lines on standard output, for the programs whose output is compared with a file.
 use definitions::Refusal;
 use definitions::number_of;
 use definitions::place_of;
