@@ -48,14 +48,14 @@ pub extern "C" fn eqp_decide(
 
 // A text's problem goes to its buffer. Where the answer buffer is short, nothing is read.
 #[no_mangle]
-pub extern "C" fn eqp_read(text: &[u8], problem: &mut [u8], answer: &mut [u8]) -> u32
-    ensures { λ r. ⌜ HostReadPromise (now (text .entry)) (now (problem .entry)) (now (answer .entry)) r (now (problem .exit)) (now (answer .exit)) ⌝ }
+pub extern "C" fn eqp_read(text: &[u8], problem: &mut [u8], reply: &mut [u8]) -> u32
+    ensures { λ r. ⌜ HostReadPromise (now (text .entry)) (now (problem .entry)) (now (reply .entry)) r (now (problem .exit)) (now (reply .exit)) ⌝ }
 {
-    if answer.len() < 32 {
+    if reply.len() < 32 {
         return 0;
     }
     let reading = read(text, problem);
-    put_reply(answer, reading_reply(reading));
+    put_reply(reply, reading_reply(reading));
     1
 }
 

@@ -6,7 +6,7 @@ use Rattle.host.proofs.eqp_read.Statement.{statement}
 use Rattle.host.proofs.eqp_read.Tie as tie
 
 returns : tie.Need-returns
-returns c = let s = c .before .before .before .before .args in short-read (s .text .now) (s .problem .now) (s .answer .now) (omega arith)
+returns c = let s = c .before .before .before .before .args in short-read (s .text .now) (s .problem .now) (s .reply .now) (omega arith)
 
 read-requires : tie.Need-read-requires
 read-requires c κs = search needs
@@ -30,7 +30,7 @@ returns-2 c =
     let done = replied .before .before .before .before in
     let enough = done .before .before in
     let s = enough .before .before .before .before .args in
-    reading-laid (s .text .now) (s .problem .now) (s .answer .now) (enough .if1 .left) (done .read .ensures) (replied .reading-reply .ensures) (laid .put-reply .ensures)
+    reading-laid (s .text .now) (s .problem .now) (s .reply .now) (enough .if1 .left) (done .read .ensures) (replied .reading-reply .ensures) (laid .put-reply .ensures)
 
 pub eqp-read-spec : {M : Type 1} → statement M
 eqp-read-spec =
