@@ -1,0 +1,9 @@
+pub mod Moves
+pub mod Blocks
+pub mod Depends
+pub mod Levels
+pub mod Order
+pub mod Onto
+pub mod Stays
+pub mod Refreshed
+pub mod Worked

@@ -1,0 +1,4 @@
+pub mod Moves
+pub mod Sets
+pub mod Levels
+pub mod Order
