@@ -25,11 +25,10 @@ use Rattle.theorems.proofs.Laws.Grown.{length-grown}
 use Rattle.theorems.proofs.Tables.Fixed.{Terms, operands-terms, right-at}
 use Rattle.theorems.proofs.Elimination.OfAssignment.{built, built-value}
 use Rattle.theorems.proofs.Elimination.WellLaid.{AppPlaced, AllPlaced, apps-placed, image-within}
-use Rattle.elimination.specs.State.{stateAt, noApp, appAt, LaidAt, three}
-use Rattle.elimination.specs.declared.laid.Laid.{Laid}
+use Rattle.elimination.specs.State.{stateAt, noApp, appAt, Laid, LaidAt, three}
 use Rattle.elimination.proofs.Operands.{map-at}
 use Rattle.elimination.proofs.Promising.{whole-state}
-use Rattle.elimination.proofs.Prefix.{nodes-length, apps-few, state-short}
+use Rattle.elimination.proofs.Prefix.{nodes-length, apps-few}
 use Rattle.decision.specs.Rows.{rowOf5, noRow, ValuesOf}
 
 three-at : (xs : List ℕ) (j : ℕ) → j < 3 → getD (three xs) j 0 ≡ getD xs j 0
@@ -192,15 +191,11 @@ module _ (s : List ℕ) (ok : Accepted s) (l : Laid) (laid : LaidAt s (nodeCount
       subst (λ m. m < length (F s ok .out)) (sym (laid .app-image i h ∙ placed .image-at))
       (image-within (symbolsOf s) (nodesOf s) (ok .nodes-right) (placed .at) (placed .at-node))
 
-  own-in : getD (l .owns) i 0 < length (F s ok .out)
-  own-in = subst (λ m. m < length (F s ok .out)) (sym (laid .app-own i h)) (placed .own-within)
+  nodes-are : l .nodes ≡ length (F s ok .out)
+  nodes-are = laid .nodes-are ∙ ap (λ (st : State). length (st .out)) (whole s ok)
 
-  -- its image and its own variable are nodes of the table
-  pub nodes-fit : (getD (l .images) q 0 < 2632) × (getD (l .owns) i 0 < 2632)
-  nodes-fit =
-      let short = state-short s ok (nodeCount s) (omega arith) in
-      let c = ap (λ (st : State). length (st .out)) (whole s ok) in
-      (omega (arith, image-in), omega (arith, own-in))
+  pub image-fits : getD (l .images) q 0 < l .nodes
+  image-fits = let many = nodes-are in omega (arith, image-in)
 
   pub rows-room : i < 40
   rows-room = let a = apps-few s ok (nodeCount s) (omega arith) in let c = laid .count-is in omega arith
@@ -215,6 +210,20 @@ module _ (s : List ℕ) (ok : Accepted s) (l : Laid) (laid : LaidAt s (nodeCount
         ap (λ (ys : List ℕ). getD ys j 0) images
         ∙ three-at (imagesOf (symbolsOf s) (stateAt s (nodeCount s) .images) (node (nodesOf s) q)) j g
         ∙ ap (λ (st : State). getD (imagesOf (symbolsOf s) (st .images) (node (nodesOf s) q)) j 0) (whole s ok)
+
+    -- also where the field is unused
+    pub images-fit : (j : ℕ) → j < 3 → getD xs j 0 < l .nodes
+    images-fit j g =
+        let is = imagesOf (symbolsOf s) (F s ok .images) (node (nodesOf s) q) in
+        let many = nodes-are in
+        let some = image-in in
+        let here = image-is j g in
+        let images = images-many s ok q q-within q-app p in
+        let values = length-grown (nodeValue (assignmentAt s p) []) (F s ok .out) in
+        elim (split j (length (operandsOf (symbolsOf s) (node (nodesOf s) q)))) [
+          | inl b ↦ let within = argument-within s ok q q-within q-app p j b in omega arith
+          | inr b ↦ omega (arith, List·getD-eq-default is 0 {n = j} (omega arith))
+        ]
 
     pub row-is : ValuesOf s p vals
         → getD (rowsAt s p) i noRow

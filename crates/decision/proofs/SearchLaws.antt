@@ -6,7 +6,7 @@ use mathlib.Core.Bool.{Bool, true, false}
 use mathlib.Core.List.{List, [], map}
 use lib.ListN.{length, getD, take, replicate, length-append, length-replicate}
 use lib.Seq.{take-all}
-use Rattle.definitions.specs.Lists.{below}
+use Rattle.definitions.specs.Lists.{below, productOf}
 use Rattle.definitions.specs.Problem.Node.{Node}
 use Rattle.definitions.specs.Problem.Check.{nodeCount, nodesOf, functionsIn}
 use Rattle.definitions.specs.Logic.{Value, truthAt, nodeValue, values}
@@ -24,7 +24,7 @@ use Rattle.theorems.proofs.Truth.{root-within, root-formula}
 use Rattle.theorems.proofs.Fits.{howMany-le}
 use Rattle.theorems.specs.Searched.{AllTrue}
 use Rattle.theorems.proofs.Search.Verdict.{valid-when, falsified-when, stopped-when}
-use Rattle.elimination.specs.declared.laid.Laid.{Laid}
+use Rattle.elimination.specs.State.{Laid, laidOf}
 use Rattle.elimination.proofs.Promising.{nodes-laid, root-laid}
 use Rattle.ranges.specs.Table.{tableIn, TableIn}
 use Rattle.ranges.proofs.TopLaws.{padded-at, take-padded}
@@ -34,9 +34,24 @@ use Rattle.walk.specs.Walked.{rootTrue, RootIn, Ends}
 use Rattle.walk.specs.declared.odometer.Odometer.{Odometer}
 use Rattle.decision.specs.Rows.{ValuesOf}
 use Rattle.decision.specs.Searched.{Laying, SearchIs}
+use Rattle.decision.specs.declared.Scope.{Scope}
 
-module _ {s table : List ℕ} {all : Laid} {ts : List ℕ} {functions predicates places : ℕ}
-    (L : Laying s table all ts functions predicates places) where
+module _ {s table images apps : List ℕ} {x : Scope} (L : Laying s table images apps x) where
+  abbrev all : Laid
+  all = laidOf images apps (L .owns) (x .all)
+
+  abbrev ts : List ℕ
+  ts = x .tops
+
+  abbrev functions : ℕ
+  functions = x .functions
+
+  abbrev predicates : ℕ
+  predicates = x .predicates
+
+  abbrev places : ℕ
+  places = x .product
+
   abbrev N : ℕ
   N = functionsIn (nodesOf s)
 
@@ -87,6 +102,11 @@ module _ {s table : List ℕ} {all : Laid} {ts : List ℕ} {functions predicates
   sizes-are =
       ap₂ (λ (n : ℕ) (xs : List ℕ). sizes (take n xs) predicates) (L .functions-are) tops-ranked
       ∙ ap₂ sizes (take-padded ranks N) (L .predicates-are)
+
+  -- the product of these sizes is that of the ranges
+  pub places-same : (o : Odometer) → sizesIn o ≡ sizes (take functions ts) predicates → productOf (sizesIn o) ≡ places
+  unfolding product
+  places-same o same = ap productOf (same ∙ sizes-are) ∙ sym (L .places-are)
 
   -- a walk from place 1 on, with these sizes
   module _ (o : Odometer) (same : sizesIn o ≡ sizes (take functions ts) predicates) (root : ℕ) (r : root ≡ rootOf (eliminated s)) where

@@ -15,8 +15,7 @@ use Rattle.definitions.specs.Operations.Buffers.{over}
 use Rattle.theorems.proofs.Accepted.{Accepted}
 use Rattle.theorems.proofs.Witness.ReadBack.{witness-length}
 use Rattle.problem.proofs.Putting.{over-more, over-over}
-use Rattle.elimination.specs.State.{LaidAt}
-use Rattle.elimination.specs.declared.laid.Laid.{Laid}
+use Rattle.elimination.specs.State.{Laid, LaidAt}
 use Rattle.elimination.proofs.Laying.{concatMap-append}
 use Rattle.decision.specs.Rows.{noRow, headBytes, ValuesOf, RowWritten, WitnessWritten}
 use Rattle.decision.proofs.RowLaws.{whole}

@@ -11,19 +11,20 @@ use Rattle.definitions.specs.Operations.Buffers.{witnessWritten}
 use Rattle.definitions.specs.Operations.Readings.{decisionRead}
 use Rattle.definitions.specs.declared.Decision.{Decision}
 use Rattle.theorems.proofs.Accepted.{Accepted}
-use Rattle.elimination.specs.State.{AllLaid}
-use Rattle.elimination.specs.declared.laid.Laid.{Laid}
+use Rattle.elimination.specs.State.{laidOf, AllLaid}
+use Rattle.decision.specs.declared.Scope.{Scope}
 
 -- an accepted problem whose table is laid and measured
-pub record Laying (s table : List ℕ) (all : Laid) (tops : List ℕ) (functions predicates places : ℕ) : Type 0 where
+pub record Laying (s table images apps : List ℕ) (x : Scope) : Type 0 where
   pub accepted : Accepted s
   pub work : List ℕ
-  pub laid : AllLaid s work all table
+  pub owns : List ℕ
+  pub laid : AllLaid s work (laidOf images apps owns (x .all)) table
   pub table-long : 21056 ≤ length table
-  pub functions-are : functions ≡ functionsIn (nodesOf s)
-  pub predicates-are : predicates ≡ predicatesIn (nodesOf s)
-  pub tops-are : tops ≡ padded (topsOf s)
-  pub places-are : places ≡ product s
+  pub functions-are : x .functions ≡ functionsIn (nodesOf s)
+  pub predicates-are : x .predicates ≡ predicatesIn (nodesOf s)
+  pub tops-are : x .tops ≡ padded (topsOf s)
+  pub places-are : x .product ≡ product s
 
 -- the search answers the outcome, and writes the witness where it is falsified
 pub record SearchIs (budget : ℕ) (s witness : List ℕ) (r : Decision) (witness′ : List ℕ) : Type 0 where

@@ -1,17 +1,15 @@
 // The witness: the letters EQW, version 1, the row count, and a row of five bytes for each distinct application in node order.
 ghost use mathlib.Core.Path.{_≡_};
 ghost use mathlib.Core.Bool.{cond};
-ghost use Prim.Native.Nat.{_+_, _*_, _<_, _≤_};
+ghost use Prim.Native.Nat.{_<_, _≤_};
 ghost use lib.ListN.{length, getD};
-ghost use Rattle.definitions.specs.Problem.Check.{nodeCount};
 ghost use Rattle.definitions.specs.Witness.{rowBytes};
 ghost use Rattle.definitions.specs.Operations.Buffers.{over};
 ghost use Rattle.theorems.proofs.Accepted.{Accepted};
 ghost use Rattle.problem.specs.Shape.{Shaped};
-ghost use Rattle.elimination.specs.State.{LaidAt};
-ghost use Rattle.decision.specs.Rows.{rowOf5, headBytes, RowWritten, WitnessWritten};
+ghost use Rattle.decision.specs.Rows.{rowOf5, headBytes, Noted, RowWritten, WitnessWritten};
 use elimination::copies::images_of;
-use elimination::laid::Laid;
+use elimination::tally::Tally;
 use problem::bytes::number;
 use problem::bytes::put;
 use problem::bytes::two_at;
@@ -63,31 +61,38 @@ fn write_row(
     problem: &[u8],
     symbols: usize,
     nodes: usize,
-    all: Laid,
+    images: &[u16],
+    apps: &[u8],
+    all: Tally,
     i: usize,
     values: &[u8],
     witness: &mut [u8],
 )
-    requires { ⌜ Accepted (now problem) × Shaped (now problem) symbols nodes × LaidAt (now problem) (nodeCount (now problem)) all × (i < all .count) × (length (now values) ≡ 2632) × (206 ≤ length (now witness)) ⌝ }
+    requires { ⌜ Accepted (now problem) × Shaped (now problem) symbols nodes × Noted (now problem) (now images) (now apps) all × (i < all .count) × (all .nodes ≤ length (now values)) × (206 ≤ length (now witness)) ⌝ }
     ensures { λ r. ⌜ RowWritten (now (problem .entry)) i (now (values .entry)) (now (witness .entry)) (now (witness .exit)) ⌝ }
 {
-    let images = all.images;
-    let apps = all.apps;
     let q = wide(apps[i]);
     let symbol = problem[node_at(symbols, q) + 1];
     let arity = arity_of(problem, symbols, nodes, wide(symbol));
-    let xs = images_of(problem, symbols, nodes, nodes, q, &images);
+    let xs = images_of(problem, symbols, nodes, nodes, q, images);
     let x = argument(values, 0 < arity, xs[0]);
     let y = argument(values, 1 < arity, xs[1]);
     let z = argument(values, 2 < arity, xs[2]);
-    let value = value_at(&all.images, q, values);
+    let value = value_at(images, q, values);
     let at = 6 + 5 * i;
     put_row(&mut witness[at..], symbol, x, y, z, value);
 }
 
 // The whole witness; its length.
-pub fn write_witness(problem: &[u8], all: Laid, values: &[u8], witness: &mut [u8]) -> usize
-    requires { ⌜ Accepted (now problem) × LaidAt (now problem) (nodeCount (now problem)) all × (length (now values) ≡ 2632) × (206 ≤ length (now witness)) ⌝ }
+pub fn write_witness(
+    problem: &[u8],
+    images: &[u16],
+    apps: &[u8],
+    all: Tally,
+    values: &[u8],
+    witness: &mut [u8],
+) -> usize
+    requires { ⌜ Accepted (now problem) × Noted (now problem) (now images) (now apps) all × (all .nodes ≤ length (now values)) × (206 ≤ length (now witness)) ⌝ }
     ensures { λ r. ⌜ WitnessWritten (now (problem .entry)) (now (values .entry)) (now (witness .entry)) r (now (witness .exit)) ⌝ }
 {
     let symbols = wide(problem[5]);
@@ -96,7 +101,17 @@ pub fn write_witness(problem: &[u8], all: Laid, values: &[u8], witness: &mut [u8
     put_head(witness, (count % 256) as u8);
     let mut i = 0;
     while i < count {
-        write_row(problem, symbols, nodes, all, i, values, witness);
+        write_row(
+            problem,
+            symbols,
+            nodes,
+            images,
+            apps,
+            all,
+            i,
+            values,
+            witness,
+        );
         i += 1;
     }
     6 + 5 * count

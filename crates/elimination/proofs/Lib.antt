@@ -1,6 +1,7 @@
 pub mod Laying
 pub mod Pairwise
 pub mod Prefix
+pub mod Tallying
 pub mod StateLaws
 pub mod Repeating
 pub mod Operands

@@ -22,8 +22,7 @@ use Rattle.definitions.specs.declared.Checked.{Checked}
 use Rattle.definitions.specs.declared.Eliminated.{Eliminated}
 use Rattle.theorems.proofs.Accepted.{Accepted, accepted}
 use Rattle.problem.specs.Shape.{Shaped}
-use Rattle.elimination.specs.declared.laid.Laid.{Laid}
-use Rattle.elimination.specs.State.{stateAt, AllLaid}
+use Rattle.elimination.specs.State.{stateAt, Laid, AllLaid}
 use Rattle.elimination.proofs.Prefix.{nodes-length, state-images}
 
 -- the header of an accepted problem is settled

@@ -1,10 +1,10 @@
 -- What the code has at hand stays right as a node is copied, repeated or one distinct application more. Assumes nothing.
-use mathlib.Core.Path.{_≡_, refl, sym, ap, ap₂, _∙_}
+use mathlib.Core.Path.{_≡_, refl, sym, ap, ap₂, _∙_, subst}
 use Prim.Native.Nat.{ℕ, suc, _+_, _-_, _<_}
 use native.Mathlib.Omega.{arith}
 use native.Mathlib.Numerals.{add-one}
 use mathlib.Core.List.{List, [], _∷_, _++_}
-use lib.ListN.{length, getD, take, set, length-set, length-append, length-replicate}
+use lib.ListN.{length, getD, take, set, length-set, length-append}
 use lib.Seq.{take-suc-set, getD-set-same, getD-set-other}
 use Rattle.definitions.specs.Lists.{snoc}
 use Rattle.definitions.specs.Problem.Node.{Node, node}
@@ -12,15 +12,23 @@ use Rattle.definitions.specs.Problem.Check.{symbolsOf, nodesOf}
 use Rattle.definitions.specs.Elimination.{App, State, last, nodeOn, imagesOf, applied, addApp, repeat, copy}
 use Rattle.theorems.proofs.Laws.Entries.{set-more}
 use Rattle.theorems.proofs.Elimination.Steps.{ofOp}
-use Rattle.elimination.specs.State.{stateAt, noApp, appAt, newApp, LaidAt, noneLaid, imageSet, appAdded}
-use Rattle.elimination.specs.declared.laid.Laid.{Laid}
+use Rattle.elimination.specs.State.{stateAt, noApp, appAt, newApp, Laid, laidOf, LaidAt, imageSet, appAdded}
+use Rattle.elimination.specs.Tallied.{noTally}
+use Rattle.elimination.specs.declared.tally.Tally.{Tally}
 
-pub laid-none : (s : List ℕ) → LaidAt s 0 noneLaid
-laid-none s =
+-- the numbers that the code hands on are those that it was shown of
+pub laid-same : {s : List ℕ} {k : ℕ} {images apps owns : List ℕ} {t t′ : Tally} → t ≡ t′ → LaidAt s k (laidOf images apps owns t′)
+    → LaidAt s k (laidOf images apps owns t)
+laid-same {s} {k} {images} {apps} {owns} e = subst (λ (t : Tally). LaidAt s k (laidOf images apps owns t)) (sym e)
+
+-- at the start, whatever stands in the lists
+pub laid-none : (s images apps owns : List ℕ) → length images ≡ 256 → length apps ≡ 40 → length owns ≡ 40
+    → LaidAt s 0 (laidOf images apps owns noTally)
+laid-none s images apps owns i a o =
     record {
-      images-long = length-replicate {A = ℕ} 256 0;
-      apps-long = length-replicate {A = ℕ} 40 0;
-      owns-long = length-replicate {A = ℕ} 40 0;
+      images-long = i;
+      apps-long = a;
+      owns-long = o;
       images-are = refl;
       count-is = refl;
       functions-are = refl;

@@ -1,2 +1,3 @@
 pub mod Lays
 pub mod State
+pub mod Tallied

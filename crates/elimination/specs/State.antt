@@ -2,13 +2,13 @@
 use mathlib.Core.Path.{_≡_}
 use Prim.Native.Nat.{ℕ, suc, _+_, _-_, _<_}
 use mathlib.Core.List.{List, [], _∷_}
-use lib.ListN.{length, getD, take, set, replicate}
+use lib.ListN.{length, getD, take, set}
 use Rattle.definitions.specs.Problem.Node.{Node, node, noNode, tableBytes}
 use Rattle.definitions.specs.Problem.Check.{symbolsOf, nodesOf, nodeCount}
 use Rattle.definitions.specs.Elimination.{App, State, begin, last, nextVar, applied, steps}
 use Rattle.definitions.specs.Operations.Buffers.{over}
 use Rattle.theorems.proofs.Elimination.Steps.{ofOp}
-use Rattle.elimination.specs.declared.laid.Laid.{Laid}
+use Rattle.elimination.specs.declared.tally.Tally.{Tally}
 
 -- the state of the definition's elimination after k nodes
 abbrev pub stateAt : List ℕ → ℕ → State
@@ -24,6 +24,28 @@ appAt s k i = getD (stateAt s k .apps) (length (stateAt s k .apps) - suc i) noAp
 -- the application that a node adds
 abbrev pub newApp : List ℕ → State → Node → App
 newApp symbols st n = record { of = n; var = nextVar st n; own = length (st .out); image = last (applied symbols st n) }
+
+-- all that is at hand: the lists that are lent, and the numbers
+pub record Laid : Type 0 where
+  pub images : List ℕ
+  pub apps : List ℕ
+  pub owns : List ℕ
+  pub count : ℕ
+  pub functions : ℕ
+  pub predicates : ℕ
+  pub nodes : ℕ
+
+abbrev pub laidOf : List ℕ → List ℕ → List ℕ → Tally → Laid
+laidOf images apps owns t =
+    record {
+      images = images;
+      apps = apps;
+      owns = owns;
+      count = t .count;
+      functions = t .functions;
+      predicates = t .predicates;
+      nodes = t .nodes;
+    }
 
 pub record LaidAt (s : List ℕ) (k : ℕ) (l : Laid) : Type 0 where
   pub images-long : length (l .images) ≡ 256
@@ -49,19 +71,7 @@ pub record AllLaid (s work : List ℕ) (l : Laid) (work′ : List ℕ) : Type 0 
   pub laid : LaidAt s (nodeCount s) l
   pub work-after : work′ ≡ over (tableBytes (stateAt s (nodeCount s) .out)) work
 
--- what the methods of Laid give
-abbrev pub noneLaid : Laid
-noneLaid =
-    record {
-      images = replicate 256 0;
-      apps = replicate 40 0;
-      owns = replicate 40 0;
-      count = 0;
-      functions = 0;
-      predicates = 0;
-      nodes = 0;
-    }
-
+-- with the image of node k, and so many nodes laid
 abbrev pub imageSet : Laid → ℕ → ℕ → ℕ → Laid
 imageSet l k image nodes =
     record {
@@ -74,6 +84,7 @@ imageSet l k image nodes =
       nodes = nodes;
     }
 
+-- with node k as one application more, its own variable node, and so many of each kind
 abbrev pub appAdded : Laid → ℕ → ℕ → ℕ → ℕ → Laid
 appAdded l k own functions predicates =
     record {

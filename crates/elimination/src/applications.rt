@@ -13,11 +13,11 @@ ghost use Rattle.theorems.proofs.Accepted.{Accepted};
 ghost use Rattle.problem.specs.Shape.{Shaped};
 ghost use Rattle.problem.specs.Stages.{firstSame};
 ghost use Rattle.elimination.specs.Lays.{Lays};
-ghost use Rattle.elimination.specs.State.{stateAt, LaidAt, StepLays};
+ghost use Rattle.elimination.specs.State.{stateAt, laidOf, LaidAt, StepLays};
 use crate::conditions::lay_choice;
 use crate::copies::images_of;
-use crate::laid::Laid;
 use crate::put::lay;
+use crate::tally::Tally;
 use problem::bytes::number;
 use problem::bytes::wide;
 use problem::nodes::arity_of;
@@ -31,17 +31,17 @@ fn lay_choices(
     nodes: usize,
     k: usize,
     work: &mut [u8],
-    before: Laid,
+    images: &[u16],
+    apps: &[u8],
+    owns: &[u16],
+    before: Tally,
 ) -> usize
-    requires { ⌜ Accepted (now problem) × Shaped (now problem) symbols nodes × (k < nodes) × (21056 ≤ length (now work)) × LaidAt (now problem) k before × (isApp (opOf (node (nodesOf (now problem)) k .op)) ≡ true) × (firstSame (node (nodesOf (now problem)) k) (take k (nodesOf (now problem))) ≡ none) ⌝ }
+    requires { ⌜ Accepted (now problem) × Shaped (now problem) symbols nodes × (k < nodes) × (21056 ≤ length (now work)) × LaidAt (now problem) k (laidOf (now images) (now apps) (now owns) before) × (isApp (opOf (node (nodesOf (now problem)) k .op)) ≡ true) × (firstSame (node (nodesOf (now problem)) k) (take k (nodesOf (now problem))) ≡ none) ⌝ }
     ensures { λ r. ⌜ Lays (now (work .entry)) (now (work .exit)) (before .nodes + 1) r (λ t. choices (node (nodesOf (now (problem .entry))) k .op) (imagesOf (symbolsOf (now (problem .entry))) (stateAt (now (problem .entry)) k .images)) t (imagesOf (symbolsOf (now (problem .entry))) (stateAt (now (problem .entry)) k .images) (node (nodesOf (now (problem .entry))) k)) (keep (sameSymbol (node (nodesOf (now (problem .entry))) k)) (stateAt (now (problem .entry)) k .apps))) × (before .nodes < r) × (r ≤ 2632) ⌝ }
 {
-    let images = before.images;
-    let apps = before.apps;
-    let owns = before.owns;
     let here = node_at(symbols, k);
     let arity = arity_of(problem, symbols, nodes, wide(problem[here + 1]));
-    let xs = images_of(problem, symbols, nodes, k, k, &images);
+    let xs = images_of(problem, symbols, nodes, k, k, images);
     let choice = if problem[here] == 0 { 1 } else { 9 };
     let mut at = before.nodes + 1;
     let mut i = before.count;
@@ -49,7 +49,7 @@ fn lay_choices(
         i -= 1;
         let q = wide(apps[i]);
         if same_symbol(problem, symbols, nodes, q, k) {
-            let ys = images_of(problem, symbols, nodes, k, q, &images);
+            let ys = images_of(problem, symbols, nodes, k, q, images);
             let own = number(owns[i]);
             at = lay_choice(work, at, choice, arity, xs, ys, own);
         }
@@ -64,15 +64,18 @@ fn lay_application(
     nodes: usize,
     k: usize,
     work: &mut [u8],
-    before: Laid,
+    images: &[u16],
+    apps: &[u8],
+    owns: &[u16],
+    before: Tally,
     variable: usize,
 ) -> usize
-    requires { ⌜ Accepted (now problem) × Shaped (now problem) symbols nodes × (k < nodes) × (21056 ≤ length (now work)) × LaidAt (now problem) k before × (isApp (opOf (node (nodesOf (now problem)) k .op)) ≡ true) × (firstSame (node (nodesOf (now problem)) k) (take k (nodesOf (now problem))) ≡ none) × (variable ≡ nextVar (stateAt (now problem) k) (node (nodesOf (now problem)) k)) ⌝ }
+    requires { ⌜ Accepted (now problem) × Shaped (now problem) symbols nodes × (k < nodes) × (21056 ≤ length (now work)) × LaidAt (now problem) k (laidOf (now images) (now apps) (now owns) before) × (isApp (opOf (node (nodesOf (now problem)) k .op)) ≡ true) × (firstSame (node (nodesOf (now problem)) k) (take k (nodesOf (now problem))) ≡ none) × (variable ≡ nextVar (stateAt (now problem) k) (node (nodesOf (now problem)) k)) ⌝ }
     ensures { λ r. ⌜ StepLays (now (problem .entry)) k (now (work .entry)) (now (work .exit)) × (r ≡ length (stateAt (now (problem .entry)) (k + 1) .out)) × (1 ≤ r) ⌝ }
 {
     let op = problem[node_at(symbols, k)];
     lay(work, before.nodes, op, (variable % 256) as u8, 0, 0, 0);
-    lay_choices(problem, symbols, nodes, k, work, before)
+    lay_choices(problem, symbols, nodes, k, work, images, apps, owns, before)
 }
 
 // One distinct application more.
@@ -82,22 +85,33 @@ pub fn add_application(
     nodes: usize,
     k: usize,
     work: &mut [u8],
-    before: Laid,
-) -> Laid
-    requires { ⌜ Accepted (now problem) × Shaped (now problem) symbols nodes × (k < nodes) × (21056 ≤ length (now work)) × LaidAt (now problem) k before × (isApp (opOf (node (nodesOf (now problem)) k .op)) ≡ true) × (firstSame (node (nodesOf (now problem)) k) (take k (nodesOf (now problem))) ≡ none) ⌝ }
-    ensures { λ r. ⌜ LaidAt (now (problem .entry)) (k + 1) r × StepLays (now (problem .entry)) k (now (work .entry)) (now (work .exit)) ⌝ }
+    images: &mut [u16],
+    apps: &mut [u8],
+    owns: &mut [u16],
+    before: Tally,
+) -> Tally
+    requires { ⌜ Accepted (now problem) × Shaped (now problem) symbols nodes × (k < nodes) × (21056 ≤ length (now work)) × LaidAt (now problem) k (laidOf (now images) (now apps) (now owns) before) × (isApp (opOf (node (nodesOf (now problem)) k .op)) ≡ true) × (firstSame (node (nodesOf (now problem)) k) (take k (nodesOf (now problem))) ≡ none) ⌝ }
+    ensures { λ r. ⌜ LaidAt (now (problem .entry)) (k + 1) (laidOf (now (images .exit)) (now (apps .exit)) (now (owns .exit)) r) × StepLays (now (problem .entry)) k (now (work .entry)) (now (work .exit)) ⌝ }
 {
+    let op = problem[node_at(symbols, k)];
+    let variable = before.next(op);
+    let at = lay_application(
+        problem,
+        symbols,
+        nodes,
+        k,
+        work,
+        images,
+        apps,
+        owns,
+        before,
+        variable,
+    );
+    let i = before.count;
     let own = before.nodes;
-    let functions = before.functions;
-    let predicates = before.predicates;
-    if problem[node_at(symbols, k)] == 0 {
-        let at = lay_application(problem, symbols, nodes, k, work, before, functions);
-        return before
-            .applied(k, own, functions + 1, predicates)
-            .imaged(k, at - 1, at);
-    }
-    let at = lay_application(problem, symbols, nodes, k, work, before, predicates);
-    before
-        .applied(k, own, functions, predicates + 1)
-        .imaged(k, at - 1, at)
+    let image = at - 1;
+    apps[i] = k as u8;
+    owns[i] = own as u16;
+    images[k] = image as u16;
+    before.applied(op, at)
 }

@@ -1,6 +1,6 @@
 // The images of a node's operands, and copies of nodes that are no applications.
 ghost use mathlib.Core.Path.{_≡_};
-ghost use Prim.Native.Nat.{_+_, _<_, _≤_};
+ghost use Prim.Native.Nat.{_<_, _≤_};
 ghost use mathlib.Core.Bool.{false};
 ghost use lib.ListN.{length, getD, take};
 ghost use Rattle.definitions.specs.Problem.Node.{node};
@@ -9,8 +9,7 @@ ghost use Rattle.definitions.specs.Problem.Check.{symbolsOf, nodesOf};
 ghost use Rattle.definitions.specs.Elimination.{imagesOf};
 ghost use Rattle.theorems.proofs.Accepted.{Accepted};
 ghost use Rattle.problem.specs.Shape.{Shaped};
-ghost use Rattle.elimination.specs.State.{stateAt, LaidAt, StepLays, three};
-use crate::laid::Laid;
+ghost use Rattle.elimination.specs.State.{stateAt, StepLays, three};
 use crate::put::lay;
 use problem::bytes::number;
 use problem::bytes::two_at;
@@ -60,21 +59,20 @@ pub fn images_of(
     [a, b, c]
 }
 
-// One copy, operands replaced by their images.
+// One copy, operands replaced by their images, after the count nodes already laid.
 pub fn copy_node(
     problem: &[u8],
     symbols: usize,
     nodes: usize,
     k: usize,
     work: &mut [u8],
-    before: Laid,
-) -> Laid
-    requires { ⌜ Accepted (now problem) × Shaped (now problem) symbols nodes × (k < nodes) × (21056 ≤ length (now work)) × LaidAt (now problem) k before × (isApp (opOf (node (nodesOf (now problem)) k .op)) ≡ false) ⌝ }
-    ensures { λ r. ⌜ LaidAt (now (problem .entry)) (k + 1) r × StepLays (now (problem .entry)) k (now (work .entry)) (now (work .exit)) ⌝ }
+    images: &[u16],
+    count: usize,
+)
+    requires { ⌜ Accepted (now problem) × Shaped (now problem) symbols nodes × (k < nodes) × (21056 ≤ length (now work)) × (length (now images) ≡ 256) × (take k (now images) ≡ stateAt (now problem) k .images) × (count ≡ length (stateAt (now problem) k .out)) × (isApp (opOf (node (nodesOf (now problem)) k .op)) ≡ false) ⌝ }
+    ensures { λ r. ⌜ StepLays (now (problem .entry)) k (now (work .entry)) (now (work .exit)) ⌝ }
 {
-    let images = before.images;
-    let count = before.nodes;
-    let xs = images_of(problem, symbols, nodes, k, k, &images);
+    let xs = images_of(problem, symbols, nodes, k, k, images);
     lay(
         work,
         count,
@@ -84,5 +82,4 @@ pub fn copy_node(
         xs[1],
         xs[2],
     );
-    before.imaged(k, count, count + 1)
 }

@@ -19,8 +19,7 @@ use Rattle.definitions.specs.declared.Measured.{Measured}
 use Rattle.theorems.proofs.Accepted.{Accepted}
 use Rattle.theorems.proofs.Truth.{table-free}
 use Rattle.theorems.proofs.Fits.{table-short, table-fits}
-use Rattle.elimination.specs.declared.laid.Laid.{Laid}
-use Rattle.elimination.specs.State.{AllLaid}
+use Rattle.elimination.specs.State.{Laid, AllLaid}
 use Rattle.elimination.proofs.Promising.{nodes-laid, table-laid, work-kept, work-laid}
 use Rattle.ranges.specs.Table.{tableIn, TableIn}
 use Rattle.ranges.specs.Spans.{SpansAre, ProductIs, noRanges}

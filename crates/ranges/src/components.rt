@@ -1,5 +1,5 @@
 // The components: for each variable the set of the variables that the links join it with.
-ghost use Prim.Native.Nat.{_<_};
+ghost use Prim.Native.Nat.{_<_, _≤_};
 ghost use mathlib.Core.Path.{_≡_};
 ghost use lib.ListN.{length};
 ghost use Rattle.ranges.specs.Sets.{LeavesAre, ClassesAre, Apart, UnionIs, Merged, inSet};
@@ -29,8 +29,9 @@ fn alone() -> [u32; 24]
 }
 
 // The classes of the variables in a set, all in one.
-fn union(sets: [u32; 24], these: u32) -> u32
-    ensures { λ r. ⌜ UnionIs sets these 24 r ⌝ }
+fn union(sets: &[u32], these: u32) -> u32
+    requires { ⌜ length (now sets) ≡ 24 ⌝ }
+    ensures { λ r. ⌜ UnionIs (now (sets .entry)) these 24 r ⌝ }
 {
     let mut all = 0u32;
     let mut v = 0;
@@ -43,20 +44,19 @@ fn union(sets: [u32; 24], these: u32) -> u32
     all
 }
 
-// The classes with those of the variables in a set made one.
-fn merge(sets: [u32; 24], these: u32) -> [u32; 24]
-    ensures { λ r. ⌜ Merged sets these r ⌝ }
+// The classes of the variables in a set are made one, in place.
+fn merge(sets: &mut [u32], these: u32)
+    requires { ⌜ length (now sets) ≡ 24 ⌝ }
+    ensures { λ r. ⌜ Merged (now (sets .entry)) these (now (sets .exit)) ⌝ }
 {
     let all = union(sets, these);
-    let mut merged = sets;
     let mut v = 0;
     while v < 24 {
         if has(all, v) {
-            merged[v] = all;
+            sets[v] = all;
         }
         v += 1;
     }
-    merged
 }
 
 // Each equation links every left leaf with every right leaf, so it makes one class of all their classes.
@@ -67,7 +67,7 @@ pub fn classes(
     truths: usize,
     leaves: &[u32],
 ) -> [u32; 24]
-    requires { ⌜ TableIn (now table) nodes variables truths × LeavesAre (tableIn (now table) nodes) nodes (now leaves) × (length (now leaves) ≡ 2632) ⌝ }
+    requires { ⌜ TableIn (now table) nodes variables truths × LeavesAre (tableIn (now table) nodes) nodes (now leaves) × (nodes ≤ length (now leaves)) ⌝ }
     ensures { λ r. ⌜ ClassesAre (tableIn (now (table .entry)) nodes) variables r × (length r ≡ 24) ⌝ }
 {
     let mut sets = alone();
@@ -77,8 +77,7 @@ pub fn classes(
         if table[at] == 2 {
             let left = two_at(table, at + 2);
             let right = two_at(table, at + 4);
-            let merged = merge(sets, leaves[left] | leaves[right]);
-            sets = merged;
+            merge(&mut sets, leaves[left] | leaves[right]);
         }
         k += 1;
     }

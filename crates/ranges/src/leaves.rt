@@ -1,5 +1,5 @@
 // The leaves of each node of the table, as a set of variables: bit v for variable v.
-ghost use Prim.Native.Nat.{_^_, _<_};
+ghost use Prim.Native.Nat.{_^_, _<_, _≤_};
 ghost use mathlib.Core.Path.{_≡_};
 ghost use lib.ListN.{length};
 ghost use Rattle.ranges.specs.Sets.{LeavesAre};
@@ -17,7 +17,7 @@ pub fn only(v: usize) -> u32
 
 // The leaves of a variable node are itself, of a term choice those of its second and third operands.
 pub fn leaf_sets(table: &[u8], nodes: usize, variables: usize, truths: usize, sets: &mut [u32])
-    requires { ⌜ TableIn (now table) nodes variables truths × (length (now sets) ≡ 2632) ⌝ }
+    requires { ⌜ TableIn (now table) nodes variables truths × (nodes ≤ length (now sets)) ⌝ }
     ensures { λ r. ⌜ LeavesAre (tableIn (now (table .entry)) nodes) nodes (now (sets .exit)) ⌝ }
 {
     let mut k = 0;

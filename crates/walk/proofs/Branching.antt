@@ -1,125 +1,204 @@
--- The nodes of a table as branches: what the code makes of a node's bytes is its branch, a branch reads only cells that are
--- there before it, since operands are earlier nodes and there are few digits, and so it is with branches in an array. Assumes nothing.
+-- The nodes of a table as branches: what the code makes of a node's bytes is its branch, and a branch reads only cells that are
+-- there before it, since operands stand earlier in the order and there are few digits. Assumes nothing.
 use mathlib.Core.Path.{_≡_, refl, sym, ap, ap₂, _∙_, subst}
 use Prim.Native.Nat.{ℕ, zero, suc, _+_, _*_, _≤_, _<_}
 use native.Mathlib.Omega.{arith}
+use native.Mathlib.Nat.{mul-le-mul-left}
 use mathlib.Core.List.{List, [], _∷_}
 use mathlib.Core.Logic.{_⊎_, inl, inr}
-use lib.ListN.{length, getD, set, length-set}
-use borrow.Author.Count.{below-more}
-use lib.Seq.{getD-set-same, getD-set-other}
+use lib.ListN.{take}
 use Rattle.definitions.specs.Bytes.{byteAt, twoAt}
 use Rattle.definitions.specs.Problem.Node.{Node, node, nodeAt}
-use Rattle.definitions.specs.Problem.Ops.{term, formula, opOf}
+use Rattle.definitions.specs.Problem.Ops.{opOf, operandSorts, countOf, fieldsOf, operandsOf}
+use Rattle.theorems.proofs.Accepted.{length-nodesAt}
+use Rattle.theorems.proofs.Laws.Ops.{AllBelow}
 use Rattle.ranges.specs.Table.{TableIn, tableIn}
+use Rattle.blocks.proofs.Depends.{Each, operandsAt, operands-below}
 use Rattle.walk.specs.declared.branches.Branch.{Branch}
 use Rattle.walk.specs.Digits.{valueIn}
-use Rattle.walk.specs.Cells.{one, where-true, branchBy, branchOf, Stored, Decoded, Ready, Ordered}
-use Rattle.walk.proofs.Values.{node-here, operands, variable-named, truth-named}
+use Rattle.walk.specs.Cells.{one, where-true, branchBy, branchOf, cellAt, Decoded, Earlier, Ready, AllReady}
+use Rattle.walk.proofs.Values.{node-here, variable-named, truth-named}
 
--- the cells of a branch stand before that of node k
-pub record BranchBefore (k : ℕ) (b : Branch) : Type 0 where
-  pub left : b .left < 42 + k
-  pub right : b .right < 42 + k
-  pub same : b .same < 42 + k
-  pub apart : b .apart < 42 + k
+-- a branch at position m reads cells before its own
+pub record BranchBefore (m : ℕ) (b : Branch) : Type 0 where
+  pub left : b .left < 42 + m
+  pub right : b .right < 42 + m
+  pub same : b .same < 42 + m
+  pub apart : b .apart < 42 + m
 
-one-before : (k c : ℕ) → c < 42 + k → BranchBefore k (one c)
-one-before k c h = record { left = h; right = h; same = h; apart = h }
+one-before : (m c : ℕ) → c < 42 + m → BranchBefore m (one c)
+one-before m c h = record { left = h; right = h; same = h; apart = h }
 
-choice-before : (k c s a : ℕ) → c < 42 + k → s < 42 + k → a < 42 + k → BranchBefore k (where-true c s a)
-choice-before k c s a x y z = record { left = x; right = omega arith; same = y; apart = z }
+choice-before : (m c s a : ℕ) → c < 42 + m → s < 42 + m → a < 42 + m → BranchBefore m (where-true c s a)
+choice-before m c s a x y z = record { left = x; right = omega arith; same = y; apart = z }
 
-module _ (bytes : List ℕ) (nodes N P : ℕ) (tab : TableIn bytes nodes N P) (k : ℕ) (below : k < nodes) where
+-- positions that are an order of the nodes: each has its own, every position is a node's, and operands stand before the nodes
+-- that use them
+pub record Ordering (bytes : List ℕ) (nodes : ℕ) (pos : ℕ → ℕ) : Type 0 where
+  pub inside : (k : ℕ) → k < nodes → pos k < nodes
+  pub one : (j k : ℕ) → j < nodes → k < nodes → pos j ≡ pos k → j ≡ k
+  pub onto : (m : ℕ) → m < nodes → (k : ℕ) × (k < nodes) × (pos k ≡ m)
+  pub operands-first : (k : ℕ) → k < nodes → Each (λ j. pos j < pos k) (operandsAt (tableIn bytes nodes) k)
+
+-- the operands of a node stand at positions below m, and so its branch reads cells before position m's
+module _
+    (bytes : List ℕ)
+    (nodes N P : ℕ)
+    (tab : TableIn bytes nodes N P)
+    (pos : ℕ → ℕ)
+    (k : ℕ)
+    (below : k < nodes)
+    (m : ℕ) where
+  abbrev t : List Node
+  t = tableIn bytes nodes
+
   abbrev n : Node
-  n = node (tableIn bytes nodes) k
+  n = node t k
 
   abbrev val : ℕ → ℕ
   val i = valueIn bytes nodes N [] i
 
-  -- node k, where it stands
-  pub node-at : n ≡ nodeAt bytes (8 * k)
-  node-at = node-here bytes nodes N P tab [] k below val (λ i h. refl)
-
-  by-op : (op : ℕ) → n .op ≡ op → BranchBefore k (branchBy N n (opOf op))
-  by-op zero q =
+  by-op : (op : ℕ) → n .op ≡ op → Each (λ j. pos j < m) (take (countOf (operandSorts (opOf op) 0)) (fieldsOf n))
+      → BranchBefore m (branchBy (cellAt pos) N n (opOf op))
+  by-op zero q w =
       let v = variable-named bytes nodes N P tab [] k below val (λ i h. refl) q in
-      one-before k (2 + n .sym) (omega arith)
-  by-op (suc zero) q =
-      let w = operands bytes nodes N P tab [] k below val (λ i h. refl) 1 q (formula ∷ term ∷ term ∷ []) refl in
-      choice-before k (42 + n .a) (42 + n .b) (42 + n .c) (omega arith) (omega arith) (omega arith)
-  by-op (suc (suc zero)) q =
-      let w = operands bytes nodes N P tab [] k below val (λ i h. refl) 2 q (term ∷ term ∷ []) refl in
+      let few = tab .few-variables in
+      one-before m (2 + n .sym) (omega arith)
+  by-op (suc zero) q w =
+      let a = w .0 in
+      let b = w .1 .0 in
+      let c = w .1 .1 .0 in
+      choice-before m (cellAt pos (n .a)) (cellAt pos (n .b)) (cellAt pos (n .c)) (omega arith) (omega arith) (omega arith)
+  by-op (suc (suc zero)) q w =
+      let a = w .0 in
+      let b = w .1 .0 in
       record { left = omega arith; right = omega arith; same = omega arith; apart = omega arith }
-  by-op (suc (suc (suc zero))) q =
-      let w = operands bytes nodes N P tab [] k below val (λ i h. refl) 3 q (formula ∷ []) refl in
-      choice-before k (42 + n .a) 0 1 (omega arith) (omega arith) (omega arith)
-  by-op (suc (suc (suc (suc zero)))) q =
-      let w = operands bytes nodes N P tab [] k below val (λ i h. refl) 4 q (formula ∷ formula ∷ []) refl in
-      choice-before k (42 + n .a) (42 + n .b) 0 (omega arith) (omega arith) (omega arith)
-  by-op (suc (suc (suc (suc (suc zero))))) q =
-      let w = operands bytes nodes N P tab [] k below val (λ i h. refl) 5 q (formula ∷ formula ∷ []) refl in
-      choice-before k (42 + n .a) 1 (42 + n .b) (omega arith) (omega arith) (omega arith)
-  by-op (suc (suc (suc (suc (suc (suc zero)))))) q =
+  by-op (suc (suc (suc zero))) q w = let a = w .0 in choice-before m (cellAt pos (n .a)) 0 1 (omega arith) (omega arith) (omega arith)
+  by-op (suc (suc (suc (suc zero)))) q w =
+      let a = w .0 in
+      let b = w .1 .0 in
+      choice-before m (cellAt pos (n .a)) (cellAt pos (n .b)) 0 (omega arith) (omega arith) (omega arith)
+  by-op (suc (suc (suc (suc (suc zero))))) q w =
+      let a = w .0 in
+      let b = w .1 .0 in
+      choice-before m (cellAt pos (n .a)) 1 (cellAt pos (n .b)) (omega arith) (omega arith) (omega arith)
+  by-op (suc (suc (suc (suc (suc (suc zero)))))) q w =
       let v = truth-named bytes nodes N P tab [] k below val (λ i h. refl) q in
-      one-before k (2 + (N + n .sym)) (omega arith)
-  by-op (suc (suc (suc (suc (suc (suc (suc zero))))))) q = one-before k 1 (omega arith)
-  by-op (suc (suc (suc (suc (suc (suc (suc (suc zero)))))))) q = one-before k 0 (omega arith)
-  by-op (suc (suc (suc (suc (suc (suc (suc (suc (suc zero))))))))) q =
-      let w = operands bytes nodes N P tab [] k below val (λ i h. refl) 9 q (formula ∷ formula ∷ formula ∷ []) refl in
-      choice-before k (42 + n .a) (42 + n .b) (42 + n .c) (omega arith) (omega arith) (omega arith)
-  by-op (suc (suc (suc (suc (suc (suc (suc (suc (suc (suc op)))))))))) q = one-before k 0 (omega arith)
+      let few = tab .few-variables in
+      let less = tab .few-truths in
+      one-before m (2 + (N + n .sym)) (omega arith)
+  by-op (suc (suc (suc (suc (suc (suc (suc zero))))))) q w = one-before m 1 (omega arith)
+  by-op (suc (suc (suc (suc (suc (suc (suc (suc zero)))))))) q w = one-before m 0 (omega arith)
+  by-op (suc (suc (suc (suc (suc (suc (suc (suc (suc zero))))))))) q w =
+      let a = w .0 in
+      let b = w .1 .0 in
+      let c = w .1 .1 .0 in
+      choice-before m (cellAt pos (n .a)) (cellAt pos (n .b)) (cellAt pos (n .c)) (omega arith) (omega arith) (omega arith)
+  by-op (suc (suc (suc (suc (suc (suc (suc (suc (suc (suc op)))))))))) q w = one-before m 0 (omega arith)
 
-  -- the branch of node k reads only what is there before it
-  pub branch-before : BranchBefore k (branchOf N n)
-  branch-before = by-op (n .op) refl
+  reads-before : Each (λ j. pos j < m) (operandsAt t k) → BranchBefore m (branchOf (cellAt pos) N n)
+  reads-before w = by-op (n .op) refl w
 
-ready : (bs : List ℕ) (k : ℕ) (b : Branch) → Stored bs k b → BranchBefore k b → Ready bs k
-ready bs k b s h =
-    record { left = omega arith; right = omega arith; same = omega arith; apart = omega arith }
+-- in an order, the branch of node k reads only what is there before it
+pub branch-before : (bytes : List ℕ) (nodes N P : ℕ) (tab : TableIn bytes nodes N P) (pos : ℕ → ℕ) → Ordering bytes nodes pos
+    → (k : ℕ) → k < nodes → BranchBefore (pos k) (branchOf (cellAt pos) N (node (tableIn bytes nodes) k))
+branch-before bytes nodes N P tab pos ordering k below =
+    reads-before bytes nodes N P tab pos k below (pos k) (ordering .operands-first k below)
 
--- so the branches of a table, as they stand in an array, are in order
-pub ordered : (table : List ℕ) (nodes N P : ℕ) (bs : List ℕ) → TableIn table nodes N P → Decoded table nodes N bs nodes → Ordered bs nodes
-ordered table nodes N P bs tab d k h =
-    ready bs k (branchOf N (node (tableIn table nodes) k)) (d .stored k h) (branch-before table nodes N P tab k h)
+each-below : (Q : ℕ → Type 0) (k : ℕ) → ((j : ℕ) → j < k → Q j) → (ks : List ℕ) → AllBelow k ks → Each Q ks
+each-below Q k f [] b = tt
+each-below Q k f (j ∷ ks) b = (f j (b .0), each-below Q k f ks (b .1))
+
+-- node k where it stands in the bytes: its operands in use, and its branch
+module _ (bytes : List ℕ) (nodes N P : ℕ) (tab : TableIn bytes nodes N P) (k : ℕ) (below : k < nodes) where
+  abbrev there : Node
+  there = nodeAt bytes (8 * k)
+
+  node-there : node (tableIn bytes nodes) k ≡ there
+  node-there = node-here bytes nodes N P tab [] k below (valueIn bytes nodes N []) (λ i h. refl)
+
+  earlier-operands : AllBelow k (operandsAt (tableIn bytes nodes) k)
+  earlier-operands =
+      operands-below N P (tableIn bytes nodes) (tab .free) k (let l = length-nodesAt bytes 0 nodes in omega arith)
+
+  -- its operands in use are earlier nodes
+  pub operands-there : (op : ℕ) → byteAt bytes (8 * k) ≡ op → AllBelow k (take (countOf (operandSorts (opOf op) 0)) (fieldsOf there))
+  operands-there op q =
+      subst (λ x. AllBelow k (take (countOf (operandSorts (opOf x) 0)) (fieldsOf there))) q
+      (subst (λ (x : Node). AllBelow k (operandsOf [] x)) node-there earlier-operands)
+
+  pub choice-operands : (byteAt bytes (8 * k) ≡ 1) ⊎ (byteAt bytes (8 * k) ≡ 9) → AllBelow k (fieldsOf there)
+  choice-operands q = elim q [ inl p ↦ operands-there 1 p | inr p ↦ operands-there 9 p ]
+
+  module _ (pos : ℕ → ℕ) (b : Branch) (is : b ≡ branchOf (cellAt pos) N there) where
+    pub branch-there : b ≡ branchOf (cellAt pos) N (node (tableIn bytes nodes) k)
+    branch-there = is ∙ ap (branchOf (cellAt pos) N) (sym node-there)
+
+    -- where every node's position is below their number, it reads cells of nodes
+    pub branch-inside : ((j : ℕ) → j < nodes → pos j < nodes) → BranchBefore nodes b
+    branch-inside inside =
+        subst (BranchBefore nodes) (sym branch-there)
+        (reads-before bytes nodes N P tab pos k below nodes
+        (each-below (λ j. pos j < nodes) k (λ j h. inside j (omega arith)) (operandsAt (tableIn bytes nodes) k) earlier-operands))
+
+earlier : (S m c at : ℕ) → at ≡ S * c → c < 42 + m → Earlier S m at
+earlier S m c at e h = let u : S * suc c ≤ S * (42 + m) = mul-le-mul-left S h in omega arith
+
+-- every position is ready: it is some node's
+pub all-ready : (S : ℕ) (bytes : List ℕ) (nodes N P : ℕ) (tab : TableIn bytes nodes N P) (pos : ℕ → ℕ) → Ordering bytes nodes pos
+    → (bs : List ℕ) → Decoded S pos bytes nodes N bs nodes → AllReady S bs nodes
+all-ready S bytes nodes N P tab pos ordering bs d m h =
+    let w = ordering .onto m h in
+    subst (Ready S bs) (w .2) (at-node (w .0) (w .1))
+  where
+    at-node : (k : ℕ) → k < nodes → Ready S bs (pos k)
+    at-node k l =
+        let b = branch-before bytes nodes N P tab pos ordering k l in
+        let s = d .stored k l in
+        record {
+          left = earlier S (pos k) _ _ (s .left-is) (b .left);
+          right = earlier S (pos k) _ _ (s .right-is) (b .right);
+          same = earlier S (pos k) _ _ (s .same-is) (b .same);
+          apart = earlier S (pos k) _ _ (s .apart-is) (b .apart);
+        }
 
 -- what the code makes of the bytes of a node, by its op
-module _ (table : List ℕ) (N at : ℕ) where
+module _ (table : List ℕ) (N at : ℕ) (pos : ℕ → ℕ) where
   abbrev m : Node
   m = nodeAt table at
 
-  of-op : (op : ℕ) → byteAt table at ≡ op → branchBy N m (opOf op) ≡ branchOf N m
-  of-op op q = ap (λ x. branchBy N m (opOf x)) (sym q)
+  of-op : (op : ℕ) → byteAt table at ≡ op → branchBy (cellAt pos) N m (opOf op) ≡ branchOf (cellAt pos) N m
+  of-op op q = ap (λ x. branchBy (cellAt pos) N m (opOf x)) (sym q)
 
-  pub as-variable : (s : ℕ) → s ≡ byteAt table (at + 1) → byteAt table at ≡ 0 → one (2 + s) ≡ branchOf N m
+  pub as-variable : (s : ℕ) → s ≡ byteAt table (at + 1) → byteAt table at ≡ 0 → one (2 + s) ≡ branchOf (cellAt pos) N m
   as-variable s e q = ap (λ x. one (2 + x)) e ∙ of-op 0 q
 
-  pub as-choice : (a b c : ℕ) → a ≡ 42 + twoAt table (at + 2) → b ≡ 42 + twoAt table (at + 4) → c ≡ 42 + twoAt table (at + 6)
-      → (byteAt table at ≡ 1) ⊎ (byteAt table at ≡ 9) → where-true a b c ≡ branchOf N m
+  pub as-choice : (a b c : ℕ) → a ≡ 42 + pos (twoAt table (at + 2)) → b ≡ 42 + pos (twoAt table (at + 4)) → c ≡ 42 + pos (twoAt table (at + 6))
+      → (byteAt table at ≡ 1) ⊎ (byteAt table at ≡ 9) → where-true a b c ≡ branchOf (cellAt pos) N m
   as-choice a b c x y z q =
-      ap (λ i. where-true i b c) x ∙ ap₂ (λ i j. where-true (42 + m .a) i j) y z ∙ elim q [ inl p ↦ of-op 1 p | inr p ↦ of-op 9 p ]
+      ap (λ i. where-true i b c) x ∙ ap₂ (λ i j. where-true (42 + pos (m .a)) i j) y z ∙ elim q [ inl p ↦ of-op 1 p | inr p ↦ of-op 9 p ]
 
-  pub as-equal : (a b : ℕ) → a ≡ 42 + twoAt table (at + 2) → b ≡ 42 + twoAt table (at + 4) → byteAt table at ≡ 2
-      → record { left = a; right = b; same = 1; apart = 0 } ≡ branchOf N m
+  pub as-equal : (a b : ℕ) → a ≡ 42 + pos (twoAt table (at + 2)) → b ≡ 42 + pos (twoAt table (at + 4)) → byteAt table at ≡ 2
+      → record { left = a; right = b; same = 1; apart = 0 } ≡ branchOf (cellAt pos) N m
   as-equal a b x y q = ap₂ (λ i j. record { left = i; right = j; same = 1; apart = 0 }) x y ∙ of-op 2 q
 
-  pub as-not : (a : ℕ) → a ≡ 42 + twoAt table (at + 2) → byteAt table at ≡ 3 → where-true a 0 1 ≡ branchOf N m
+  pub as-not : (a : ℕ) → a ≡ 42 + pos (twoAt table (at + 2)) → byteAt table at ≡ 3 → where-true a 0 1 ≡ branchOf (cellAt pos) N m
   as-not a x q = ap (λ i. where-true i 0 1) x ∙ of-op 3 q
 
-  pub as-and : (a b : ℕ) → a ≡ 42 + twoAt table (at + 2) → b ≡ 42 + twoAt table (at + 4) → byteAt table at ≡ 4 → where-true a b 0 ≡ branchOf N m
+  pub as-and : (a b : ℕ) → a ≡ 42 + pos (twoAt table (at + 2)) → b ≡ 42 + pos (twoAt table (at + 4)) → byteAt table at ≡ 4 → where-true a b 0 ≡ branchOf (cellAt pos) N m
   as-and a b x y q = ap₂ (λ i j. where-true i j 0) x y ∙ of-op 4 q
 
-  pub as-or : (a b : ℕ) → a ≡ 42 + twoAt table (at + 2) → b ≡ 42 + twoAt table (at + 4) → byteAt table at ≡ 5 → where-true a 1 b ≡ branchOf N m
+  pub as-or : (a b : ℕ) → a ≡ 42 + pos (twoAt table (at + 2)) → b ≡ 42 + pos (twoAt table (at + 4)) → byteAt table at ≡ 5 → where-true a 1 b ≡ branchOf (cellAt pos) N m
   as-or a b x y q = ap₂ (λ i j. where-true i 1 j) x y ∙ of-op 5 q
 
-  pub as-truth : (s : ℕ) → s ≡ byteAt table (at + 1) → byteAt table at ≡ 6 → one (2 + (N + s)) ≡ branchOf N m
+  pub as-truth : (s : ℕ) → s ≡ byteAt table (at + 1) → byteAt table at ≡ 6 → one (2 + (N + s)) ≡ branchOf (cellAt pos) N m
   as-truth s e q = ap (λ x. one (2 + (N + x))) e ∙ of-op 6 q
 
-  pub as-yes : byteAt table at ≡ 7 → one 1 ≡ branchOf N m
+  pub as-yes : byteAt table at ≡ 7 → one 1 ≡ branchOf (cellAt pos) N m
   as-yes q = of-op 7 q
 
   no-more : (op : ℕ) → (op ≡ 0 → ⊥) → ((op ≡ 1) ⊎ (op ≡ 9) → ⊥) → (op ≡ 2 → ⊥) → (op ≡ 3 → ⊥) → (op ≡ 4 → ⊥) → (op ≡ 5 → ⊥) → (op ≡ 6 → ⊥)
-      → (op ≡ 7 → ⊥) → one 0 ≡ branchBy N m (opOf op)
+      → (op ≡ 7 → ⊥) → one 0 ≡ branchBy (cellAt pos) N m (opOf op)
   no-more zero a b c d e f g h = absurd (a refl)
   no-more (suc zero) a b c d e f g h = absurd (b (inl refl))
   no-more (suc (suc zero)) a b c d e f g h = absurd (c refl)
@@ -135,92 +214,5 @@ module _ (table : List ℕ) (N at : ℕ) where
   -- false, and what is no op
   pub as-rest : (byteAt table at ≡ 0 → ⊥) → ((byteAt table at ≡ 1) ⊎ (byteAt table at ≡ 9) → ⊥) → (byteAt table at ≡ 2 → ⊥)
       → (byteAt table at ≡ 3 → ⊥) → (byteAt table at ≡ 4 → ⊥) → (byteAt table at ≡ 5 → ⊥) → (byteAt table at ≡ 6 → ⊥)
-      → (byteAt table at ≡ 7 → ⊥) → one 0 ≡ branchOf N m
+      → (byteAt table at ≡ 7 → ⊥) → one 0 ≡ branchOf (cellAt pos) N m
   as-rest = no-more (byteAt table at)
-
--- a branch laid in an array at its four places
-abbrev pub laid : List ℕ → ℕ → Branch → List ℕ
-laid bs k b =
-    set (set (set (set bs (4 * k) (16 * b .left)) (4 * k + 1) (16 * b .right)) (4 * k + 2) (16 * b .same)) (4 * k + 3) (16 * b .apart)
-
-module _ (bs : List ℕ) (k : ℕ) (b : Branch) where
-  abbrev first : List ℕ
-  first = set bs (4 * k) (16 * b .left)
-
-  abbrev second : List ℕ
-  second = set first (4 * k + 1) (16 * b .right)
-
-  abbrev third : List ℕ
-  third = set second (4 * k + 2) (16 * b .same)
-
-  pub length-laid : length (laid bs k b) ≡ length bs
-  length-laid = simp length-set
-
-  length-third : length third ≡ length bs
-  length-third = simp length-set
-
-  length-second : length second ≡ length bs
-  length-second = simp length-set
-
-  -- what stands before those places stays
-  kept : (i : ℕ) → i < 4 * k → getD (laid bs k b) i 0 ≡ getD bs i 0
-  kept i h =
-      getD-set-other third (4 * k + 3) i (16 * b .apart) 0 (λ e. omega arith)
-      ∙ getD-set-other second (4 * k + 2) i (16 * b .same) 0 (λ e. omega arith)
-      ∙ getD-set-other first (4 * k + 1) i (16 * b .right) 0 (λ e. omega arith)
-      ∙ getD-set-other bs (4 * k) i (16 * b .left) 0 (λ e. omega arith)
-
-  laid-before : (j : ℕ) → j < k → (x : Branch) → Stored bs j x → Stored (laid bs k b) j x
-  laid-before j h x s =
-      record {
-        left-is = kept (4 * j) (omega arith) ∙ s .left-is;
-        right-is = kept (4 * j + 1) (omega arith) ∙ s .right-is;
-        same-is = kept (4 * j + 2) (omega arith) ∙ s .same-is;
-        apart-is = kept (4 * j + 3) (omega arith) ∙ s .apart-is;
-      }
-
-  laid-here : 4 * k + 4 ≤ length bs → Stored (laid bs k b) k b
-  laid-here long =
-      let two = length-set bs (4 * k) (16 * b .left) in
-      let three = length-second in
-      let four = length-third in
-      record {
-        left-is =
-            getD-set-other third (4 * k + 3) (4 * k) (16 * b .apart) 0 (λ e. omega arith)
-            ∙ getD-set-other second (4 * k + 2) (4 * k) (16 * b .same) 0 (λ e. omega arith)
-            ∙ getD-set-other first (4 * k + 1) (4 * k) (16 * b .right) 0 (λ e. omega arith)
-            ∙ getD-set-same bs (4 * k) (16 * b .left) 0 (omega arith);
-        right-is =
-            getD-set-other third (4 * k + 3) (4 * k + 1) (16 * b .apart) 0 (λ e. omega arith)
-            ∙ getD-set-other second (4 * k + 2) (4 * k + 1) (16 * b .same) 0 (λ e. omega arith)
-            ∙ getD-set-same first (4 * k + 1) (16 * b .right) 0 (omega arith);
-        same-is =
-            getD-set-other third (4 * k + 3) (4 * k + 2) (16 * b .apart) 0 (λ e. omega arith)
-            ∙ getD-set-same second (4 * k + 2) (16 * b .same) 0 (omega arith);
-        apart-is = getD-set-same third (4 * k + 3) (16 * b .apart) 0 (omega arith);
-      }
-
--- the branch that the code makes of node k has cells below 2674
-module _
-    (table : List ℕ)
-    (nodes N P : ℕ)
-    (tab : TableIn table nodes N P)
-    (k : ℕ)
-    (below : k < nodes)
-    (b : Branch)
-    (is : b ≡ branchOf N (nodeAt table (8 * k))) where
-  made : b ≡ branchOf N (node (tableIn table nodes) k)
-  made = is ∙ ap (branchOf N) (sym (node-at table nodes N P tab k below))
-
-  pub small-branch : (b .left < 2674) × (b .right < 2674) × (b .same < 2674) × (b .apart < 2674)
-  small-branch =
-      let w = subst (λ (x : Branch). BranchBefore k x) (sym made) (branch-before table nodes N P tab k below) in
-      (omega arith, omega arith, omega arith, omega arith)
-
-  -- laid after the branches of the nodes before it
-  pub decoded-more : (bs : List ℕ) → 4 * nodes ≤ length bs → Decoded table nodes N bs k → Decoded table nodes N (laid bs k b) (k + 1)
-  decoded-more bs long d =
-      record {
-        stored = below-more (λ j. Stored (laid bs k b) j (branchOf N (node (tableIn table nodes) j))) k (λ j h. laid-before bs k b j h _ (d .stored j h))
-            (subst (Stored (laid bs k b) k) made (laid-here bs k b (omega arith)));
-      }

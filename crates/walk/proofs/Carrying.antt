@@ -11,7 +11,9 @@ use Rattle.theorems.proofs.Laws.Entries.{set-more}
 use Rattle.theorems.proofs.Laws.Tests.{split}
 use Rattle.walk.specs.Digits.{digitsOf, sizesIn, Turning, NextIs}
 use Rattle.walk.specs.declared.odometer.Odometer.{Odometer}
-use Rattle.walk.proofs.Turns.{Carried, next-turns, next-wraps, within-at, within-of}
+use Rattle.blocks.proofs.Moves.{turning-at, turning-none}
+use Rattle.blocks.proofs.Stays.{within-at}
+use Rattle.walk.proofs.Turns.{Carried, next-turns, next-wraps, within-of}
 
 -- a digit in use is below its size
 pub digit-in-range : (o : Odometer) → Turning o → (v : ℕ) → v < o .count → getD (o .digits) v 0 < getD (o .sizes) v 0
@@ -109,7 +111,7 @@ module _ (o : Odometer) (i : ℕ) (ds : List ℕ) (c : Carrying o i ds) where
 
   -- digit i turns
   pub turned : i < o .count → getD ds i 0 + 1 < getD (o .sizes) i 0
-      → NextIs o (record { odometer = record { digits = set ds i (getD ds i 0 + 1); sizes = o .sizes; count = o .count }; ended = false })
+      → NextIs o (record { odometer = record { digits = set ds i (getD ds i 0 + 1); sizes = o .sizes; count = o .count }; turned = i; ended = false })
   turned h turn =
       let es = set ds i (getD ds i 0 + 1) in
       let few = t .few in
@@ -122,6 +124,7 @@ module _ (o : Odometer) (i : ℕ) (ds : List ℕ) (c : Carrying o i ds) where
       let ts = getD-take (o .count) (o .sizes) i 0 h in
       let td = getD-take (o .count) (o .digits) i 0 h in
       let te = getD-take (o .count) es i 0 h in
+      let lengths = old-length es long ∙ sym sl in
       record {
         turning =
             turns es long
@@ -141,8 +144,9 @@ module _ (o : Odometer) (i : ℕ) (ds : List ℕ) (c : Carrying o i ds) where
             next-turns i (sizesIn o) (digitsOf o) (take (o .count) es)
             (carried es long i (omega arith) (c .tops) (λ j l. there j (λ q. omega arith) ∙ c .zeros j l)) (omega arith) (omega arith) (omega arith)
             (λ j l. pointwise es j l there);
+        turned-is = sym (turning-at (sizesIn o) (digitsOf o) lengths i (omega arith) (carried es long i (omega arith) (c .tops) (λ j l. there j (λ q. omega arith) ∙ c .zeros j l) .tops) (omega arith));
         at-end = λ e. absurd (false≢true e);
-        not-end = λ _ z. let q = z i in omega arith;
+        not-end = λ _. h;
       }
     where
       pointwise : (es : List ℕ) (j : ℕ) → i < j → ((j : ℕ) → (j ≡ i → ⊥) → getD es j 0 ≡ getD ds j 0) → getD (take (o .count) es) j 0 ≡ getD (digitsOf o) j 0
@@ -158,7 +162,7 @@ module _ (o : Odometer) (i : ℕ) (ds : List ℕ) (c : Carrying o i ds) where
           past-end xs j b = lib.ListN.List·getD-eq-default (take (o .count) xs) 0 (let m = lib.ListN.length-take (o .count) xs in omega arith)
 
   -- every digit was at its top
-  pub wrapped : o .count ≤ i → NextIs o (record { odometer = record { digits = ds; sizes = o .sizes; count = o .count }; ended = true })
+  pub wrapped : o .count ≤ i → NextIs o (record { odometer = record { digits = ds; sizes = o .sizes; count = o .count }; turned = o .count; ended = true })
   wrapped h =
       let l = c .inside in
       let e : i ≡ o .count = omega arith in
@@ -170,9 +174,13 @@ module _ (o : Odometer) (i : ℕ) (ds : List ℕ) (c : Carrying o i ds) where
             next-wraps (sizesIn o) (digitsOf o) (take (o .count) ds)
             (subst (λ m. Carried m (sizesIn o) (digitsOf o) (take (o .count) ds)) (e ∙ sym (sizes-length ds (c .long)))
             (carried ds (c .long) i l (c .tops) (c .zeros)));
-        at-end =
-            λ _ j.
-            elim (split j i) [ inl b ↦ c .zeros j b | inr b ↦ past-kept j (omega arith) ];
+        turned-is =
+            sym
+            (turning-none (sizesIn o) (digitsOf o) (old-length ds (c .long) ∙ sym (sizes-length ds (c .long)))
+            (subst (λ m. Carried m (sizesIn o) (digitsOf o) (take (o .count) ds)) (e ∙ sym (sizes-length ds (c .long)))
+            (carried ds (c .long) i l (c .tops) (c .zeros)) .tops)
+            ∙ sizes-length ds (c .long));
+        at-end = λ _. refl;
         not-end = λ e. absurd (false≢true (sym e));
       }
 

@@ -1,4 +1,4 @@
--- Sixteen lanes: what a sum takes for a choice, and lanes picked, laid and copied one by one. Assumes nothing.
+-- Sixteen lanes: what a sum takes for a choice, and lanes picked and laid. Assumes nothing.
 use mathlib.Core.Path.{_≡_, refl, sym, ap, ap₂, _∙_, subst}
 use Prim.Native.Nat.{ℕ, _+_, _*_, _-_, _≤_, _<_}
 use native.Mathlib.Omega.{arith}
@@ -9,9 +9,8 @@ use lib.ListN.{length, getD, set, take, drop, length-set, length-append, List·g
 use lib.Seq.{getD-take, getD-drop, getD-append-add, length-take-le}
 use lib.Dec.{eqb}
 use borrow.Author.Tests.{eqb-true, eqb-false}
-use Rattle.theorems.proofs.Laws.Tests.{split}
 use Rattle.theorems.proofs.Laws.Entries.{set-more}
-use Rattle.walk.specs.Cells.{cell, chosen, Earlier, Ready, Picked, LanesLaid, Solved, LaneCopied}
+use Rattle.walk.specs.Cells.{chosen, Picked, LanesLaid}
 
 -- a choice by a truth value
 abbrev by : Bool → ℕ → ℕ → ℕ
@@ -134,61 +133,7 @@ module _ (before : List ℕ) (at : ℕ) (lanes after : List ℕ) (many : length 
             ];
       }
 
--- one node's value more
-pub copies-more : (cells : List ℕ) → (lane k : ℕ) → (vals : List ℕ) → LaneCopied cells lane k vals → k < length vals
-    → LaneCopied cells lane (k + 1) (set vals k (cell cells (42 + k) lane))
-copies-more cells lane k vals p h =
-    record { copied = set-more (λ j v. v ≡ cell cells (42 + j) lane) vals k (cell cells (42 + k) lane) h (p .copied) refl }
-
--- what a branch of node j takes in lane l, from where its four cells stand
-abbrev branchTakes : List ℕ → List ℕ → ℕ → ℕ → ℕ
-branchTakes bs cells j l =
-    chosen (getD cells (getD bs (4 * j) 0 + l) 0) (getD cells (getD bs (4 * j + 1) 0 + l) 0) (getD cells (getD bs (4 * j + 2) 0 + l) 0)
-    (getD cells (getD bs (4 * j + 3) 0 + l) 0)
-
--- what stands ready for a node lies within the cells
-pub room : (k at w nodes : ℕ) → (cells : List ℕ) → k < nodes → 16 * (42 + nodes) ≤ length cells → Earlier k at → w ≡ at → w + 16 ≤ length cells
-room k at w nodes cells h long e q = omega arith
-
-chosen-equal : (x y p q x' y' p' q' : ℕ) → x ≡ x' → y ≡ y' → p ≡ p' → q ≡ q' → chosen x y p q ≡ chosen x' y' p' q'
+-- a choice between equals is the same
+pub chosen-equal : (x y p q x' y' p' q' : ℕ) → x ≡ x' → y ≡ y' → p ≡ p' → q ≡ q' → chosen x y p q ≡ chosen x' y' p' q'
 chosen-equal x y p q x' y' p' q' a b c d =
     ap (λ n. chosen n y p q) a ∙ ap (λ n. chosen x' n p q) b ∙ ap (λ n. chosen x' y' n q) c ∙ ap (λ n. chosen x' y' p' n) d
-
-pub picked-equal : (cells lanes : List ℕ) → (x y p q x' y' p' q' : ℕ) → x ≡ x' → y ≡ y' → p ≡ p' → q ≡ q'
-    → Picked cells x y p q lanes → Picked cells x' y' p' q' lanes
-picked-equal cells lanes x y p q x' y' p' q' a b c d v =
-    subst (λ n. Picked cells n y' p' q' lanes) a
-    (subst (λ n. Picked cells x n p' q' lanes) b
-    (subst (λ n. Picked cells x y n q' lanes) c
-    (subst (λ n. Picked cells x y p n lanes) d v)))
-
--- lanes laid for node k leave what the nodes up to k read as it was
-module _ (bs cells lanes after : List ℕ) (k : ℕ) (laid : LanesLaid cells (16 * (42 + k)) lanes after) where
-  read-kept : (j at l : ℕ) → j ≤ k → l < 16 → Earlier j at → getD after (at + l) 0 ≡ getD cells (at + l) 0
-  read-kept j at l h b e = laid .outside (at + l) (inl (omega arith))
-
-  takes-kept : (j l : ℕ) → j ≤ k → l < 16 → Ready bs j → branchTakes bs cells j l ≡ branchTakes bs after j l
-  takes-kept j l h b r =
-      chosen-equal _ _ _ _ _ _ _ _ (sym (read-kept j _ l h b (r .left))) (sym (read-kept j _ l h b (r .right)))
-      (sym (read-kept j _ l h b (r .same))) (sym (read-kept j _ l h b (r .apart)))
-
-  -- so one node more is solved
-  pub solves-more : (before : List ℕ) → ((j : ℕ) → j ≤ k → Ready bs j)
-      → Picked cells (getD bs (4 * k) 0) (getD bs (4 * k + 1) 0) (getD bs (4 * k + 2) 0) (getD bs (4 * k + 3) 0) lanes
-      → Solved bs before cells k → Solved bs before after (k + 1)
-  solves-more before ready picked s =
-      record {
-        solves =
-            λ j l h b.
-            elim (split j k) [
-              | inl u ↦
-                  laid .outside (16 * (42 + j) + l) (inl (omega arith))
-                  ∙ s .solves j l u b
-                  ∙ takes-kept j l (omega arith) b (ready j (omega arith))
-              | inr u ↦
-                  let q : k ≡ j = omega arith in
-                  subst (λ m. cell after (42 + m) l ≡ branchTakes bs after m l) q
-                  (laid .inside l b ∙ picked .lane l b ∙ takes-kept k l (omega arith) b (ready k (omega arith)))
-            ];
-        kept = λ i h. laid .outside i (inl (omega arith)) ∙ s .kept i h;
-      }

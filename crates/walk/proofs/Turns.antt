@@ -68,13 +68,7 @@ next-wraps (s ∷ ss) (d ∷ ds) (x ∷ es) c =
     ap₂ {C = List ℕ} (λ y ys. y ∷ ys) (c .zeros 0 (omega arith)) (next-wraps ss ds es (carried-tail (length ss) s d x ss ds es c))
     ∙ sym (carry s d ss ds (c .tops 0 (omega arith)))
 
--- digits in their ranges, one by one
-pub within-at : (ss ds : List ℕ) → Within ss ds → (j : ℕ) → j < length ss → getD ds j 0 < getD ss j 0
-within-at [] ds w j h = absurd (omega arith)
-within-at (s ∷ ss) [] w j h = absurd w
-within-at (s ∷ ss) (d ∷ ds) w zero h = w .0
-within-at (s ∷ ss) (d ∷ ds) w (suc j) h = within-at ss ds (w .1) j (omega arith)
-
+-- digits in their ranges, from each of them
 pub within-of : (ss ds : List ℕ) → length ds ≡ length ss → ((j : ℕ) → j < length ss → getD ds j 0 < getD ss j 0) → Within ss ds
 within-of [] [] l h = tt
 within-of [] (d ∷ ds) l h = absurd (omega arith)

@@ -1,9 +1,10 @@
-// Sixteen places at once: the values of every node, in sixteen lanes that stand beside each other. A branch does the same in
-// every lane, with no jump, so that a processor does all sixteen in a few steps.
+// The lanes of the cells. A branch does the same in every lane, with no jump, so that a processor does sixteen in a few steps.
 ghost use Prim.Native.Nat.{_+_, _*_, _≤_, _<_};
 ghost use mathlib.Core.Path.{_≡_};
-ghost use lib.ListN.{length};
-ghost use Rattle.walk.specs.Cells.{chosen, Ordered, Picked, LanesLaid, Solved, FirstLane, LaneCopied};
+ghost use lib.ListN.{length, getD};
+ghost use Rattle.walk.specs.Cells.{chosen, AllReady, Picked, LanesLaid, Chosen, SolvedFrom, FirstLane, LaneCopied};
+ghost use Rattle.walk.specs.Reading.{BranchRead, FalsesAre, InOrder, positionsIn};
+use crate::branches::Branch;
 use problem::bytes::number;
 use problem::bytes::put;
 
@@ -52,33 +53,78 @@ pub fn put_lanes(cells: &mut [u8], at: usize, lanes: [u8; 16])
     put(&mut cells[at..], &lanes);
 }
 
-// The values of all nodes, from those of the digits.
-pub fn evaluate(branches: &[u16], nodes: usize, cells: &mut [u8])
-    requires { ⌜ (4 * nodes ≤ length (now branches)) × (16 * (42 + nodes) ≤ length (now cells)) × Ordered (now branches) nodes ⌝ }
-    ensures { λ r. ⌜ Solved (now (branches .entry)) (now (cells .entry)) (now (cells .exit)) nodes ⌝ }
+// One position in all its lanes.
+fn solve(cells: &mut [u8], at: usize, branch: Branch, chunks: usize)
+    requires { ⌜ (chunks ≤ 8) × (at + 16 * chunks ≤ length (now cells)) × (branch .left + 16 * chunks ≤ at) × (branch .right + 16 * chunks ≤ at) × (branch .same + 16 * chunks ≤ at) × (branch .apart + 16 * chunks ≤ at) ⌝ }
+    ensures { λ r. ⌜ Chosen (16 * chunks) at branch (now (cells .entry)) (now (cells .exit)) ⌝ }
 {
-    let mut k = 0;
-    while k < nodes {
+    let mut h = 0;
+    while h < chunks {
+        let off = 16 * h;
         let lanes = pick(
             cells,
-            number(branches[4 * k]),
-            number(branches[4 * k + 1]),
-            number(branches[4 * k + 2]),
-            number(branches[4 * k + 3]),
+            branch.left + off,
+            branch.right + off,
+            branch.same + off,
+            branch.apart + off,
         );
-        put_lanes(cells, 16 * (42 + k), lanes);
-        k += 1;
+        put_lanes(cells, at + off, lanes);
+        h += 1;
     }
 }
 
-// The first of so many lanes where the root is false, or as many as there are.
-pub fn first_false(cells: &[u8], root: usize, many: usize) -> usize
-    requires { ⌜ (16 * (42 + root) + 16 ≤ length (now cells)) × (many ≤ 16) ⌝ }
-    ensures { λ r. ⌜ FirstLane (now (cells .entry)) root many r ⌝ }
+fn stored(branches: &[u16], m: usize) -> Branch
+    requires { ⌜ (m < 2632) × (4 * m + 4 ≤ length (now branches)) ⌝ }
+    ensures { λ r. ⌜ BranchRead (now (branches .entry)) m r ⌝ }
 {
+    Branch {
+        left: number(branches[4 * m]),
+        right: number(branches[4 * m + 1]),
+        same: number(branches[4 * m + 2]),
+        apart: number(branches[4 * m + 3]),
+    }
+}
+
+// The positions from one on, each from the cells before it.
+pub fn evaluate(branches: &[u16], from: usize, nodes: usize, chunks: usize, cells: &mut [u8])
+    requires { ⌜ (4 * nodes ≤ length (now branches)) × (from ≤ nodes) × (nodes ≤ 2632) × (chunks ≤ 8) × (16 * chunks * (42 + nodes) ≤ length (now cells)) × AllReady (16 * chunks) (now branches) nodes ⌝ }
+    ensures { λ r. ⌜ SolvedFrom (16 * chunks) (now (branches .entry)) from nodes (now (cells .entry)) (now (cells .exit)) ⌝ }
+{
+    let wide = 16 * chunks;
+    let mut at = wide * (42 + from);
+    let mut m = from;
+    while m < nodes {
+        solve(cells, at, stored(branches, m), chunks);
+        at += wide;
+        m += 1;
+    }
+}
+
+// How many of so many lanes are 0.
+fn falses(cells: &[u8], at: usize, many: usize) -> u8
+    requires { ⌜ (at + many ≤ length (now cells)) × (many ≤ 128) ⌝ }
+    ensures { λ r. ⌜ FalsesAre (now (cells .entry)) at many r ⌝ }
+{
+    let mut count = 0u8;
+    let mut lane = 0;
+    while lane < many {
+        count += equal(cells[at + lane], 0);
+        lane += 1;
+    }
+    count
+}
+
+// The first of so many lanes that is 0, or as many as there are.
+pub fn first_false(cells: &[u8], at: usize, many: usize) -> usize
+    requires { ⌜ (at + many ≤ length (now cells)) × (many ≤ 128) ⌝ }
+    ensures { λ r. ⌜ FirstLane (now (cells .entry)) at many r ⌝ }
+{
+    if falses(cells, at, many) == 0 {
+        return many;
+    }
     let mut l = 0;
     while l < many {
-        if cells[16 * (42 + root) + l] == 0 {
+        if cells[at + l] == 0 {
             return l;
         }
         l += 1;
@@ -86,14 +132,29 @@ pub fn first_false(cells: &[u8], root: usize, many: usize) -> usize
     many
 }
 
+// Where the lanes of a node's cell begin.
+pub fn cell_of(positions: &[u16], k: usize, chunks: usize) -> usize
+    requires { ⌜ (k < length (now positions)) × (getD (now positions) k 0 < 2632) × (chunks ≤ 8) ⌝ }
+    ensures { λ r. ⌜ r ≡ 16 * chunks * (42 + getD (now (positions .entry)) k 0) ⌝ }
+{
+    16 * chunks * (42 + number(positions[k]))
+}
+
 // The values of the nodes in one lane.
-pub fn values_of(cells: &[u8], nodes: usize, lane: usize, values: &mut [u8])
-    requires { ⌜ (16 * (42 + nodes) ≤ length (now cells)) × (nodes ≤ length (now values)) × (lane < 16) ⌝ }
-    ensures { λ r. ⌜ LaneCopied (now (cells .entry)) lane nodes (now (values .exit)) ⌝ }
+pub fn values_of(
+    cells: &[u8],
+    positions: &[u16],
+    nodes: usize,
+    chunks: usize,
+    lane: usize,
+    values: &mut [u8],
+)
+    requires { ⌜ InOrder (now positions) nodes × (nodes ≤ 2632) × (chunks ≤ 8) × (16 * chunks * (42 + nodes) ≤ length (now cells)) × (nodes ≤ length (now values)) × (lane < 16 * chunks) ⌝ }
+    ensures { λ r. ⌜ LaneCopied (16 * chunks) (positionsIn (now (positions .entry))) (now (cells .entry)) lane nodes (now (values .exit)) ⌝ }
 {
     let mut k = 0;
     while k < nodes {
-        values[k] = cells[16 * (42 + k) + lane];
+        values[k] = cells[cell_of(positions, k, chunks) + lane];
         k += 1;
     }
 }

@@ -5,7 +5,7 @@ use mathlib.Core.Path.{_≡_, subst}
 use Prim.Native.Nat.{ℕ, _≤_}
 use mathlib.Core.List.{List}
 use mathlib.Core.Option.{none}
-use lib.ListN.{length}
+use lib.ListN.{length, length-replicate}
 use Rattle.definitions.specs.Ranges.{topsOf, product, padded}
 use Rattle.definitions.specs.Operations.Answers.{buffersRefusal}
 use Rattle.theorems.proofs.Accepted.{Accepted, accepted}
@@ -26,13 +26,28 @@ module _ (c : tie.Start) where
   fits : buffersRefusal bytes (length (c .args .work .now)) (length (c .args .witness .now)) ≡ none
   fits = buffers-taken bytes (length (c .args .work .now)) (length (c .args .witness .now)) (taken bytes (length (c .args .work .now)) (c .pre .0) (c .pre .1)) (c .pre .2)
 
+slice-aggregate-lay-table : tie.Need-slice-aggregate-lay-table
+slice-aggregate-lay-table c = search needs
+
+slice-aggregate-lay-table-2 : tie.Need-slice-aggregate-lay-table-2
+slice-aggregate-lay-table-2 c = search needs
+
+slice-aggregate-lay-table-3 : tie.Need-slice-aggregate-lay-table-3
+slice-aggregate-lay-table-3 c = search needs
+
 lay-table-requires : tie.Need-lay-table-requires
-lay-table-requires c κs = (ok (c .before .before .before .before), c .before .before .before .before .pre .1)
+lay-table-requires c κs = (
+  ok (c .before .before .before .before .before .before .before),
+  c .before .before .before .before .before .before .before .pre .1,
+  length-replicate {A = ℕ} 256 0,
+  length-replicate {A = ℕ} 40 0,
+  length-replicate {A = ℕ} 40 0,
+)
 
 -- the table is laid
 module _ (c : tie.After-lay-table) where
   abbrev start : tie.Start
-  start = c .before .before .before .before .before
+  start = c .before .before .before .before .before .before .before .before
 
   abbrev work′ : List ℕ
   work′ = c .lay-table .last .1 .0
@@ -42,13 +57,13 @@ module _ (c : tie.After-lay-table) where
 
 measure-requires : tie.Need-measure-requires
 measure-requires c κs =
-    let l = c .before .before .before in
+    let l = c .before .before .before .before .before .before in
     table-stands (bytes (start l)) (ok (start l)) (l .lay-table .ensures) (long l) (start l .pre .3) (start l .pre .4)
 
 -- and measured
 module _ (c : tie.After-measure) where
   abbrev laid : tie.After-lay-table
-  laid = c .before .before .before .before
+  laid = c .before .before .before .before .before .before .before
 
   abbrev first : tie.Start
   first = start laid
@@ -65,14 +80,21 @@ enum-told c = search needs
 enum-known-size : tie.Need-enum-known-size
 enum-known-size c = search needs
 
+slice-aggregate-search : tie.Need-slice-aggregate-search
+slice-aggregate-search c = search needs
+
+slice-aggregate-search-2 : tie.Need-slice-aggregate-search-2
+slice-aggregate-search-2 c = search needs
+
 search-requires : tie.Need-search-requires
 search-requires c κs =
-    let m = c .before .before .before .before .before .before in
+    let m = c .before .before .before .before .before .before .before .before in
     let s = first m in
-    let is = subst (ProductIs (product (bytes s))) (c .before .before .before .size .given .1) (product-is m) in (
+    let is = subst (ProductIs (product (bytes s))) (c .before .before .before .before .before .size .given .1) (product-is m) in (
       record {
         accepted = ok s;
         work = s .args .work .now;
+        owns = laid m .lay-table .last .1 .1 .1 .1 .0;
         laid = laid m .lay-table .ensures;
         table-long = long (laid m);
         functions-are = s .pre .3;
@@ -101,9 +123,9 @@ same-length-3 c = search needs
 
 returns-2 : tie.Need-returns-2
 returns-2 c =
-    let m = c .before .before .before .before .before .before .before .before .before in
+    let m = c .before .before .before .before .before .before .before .before .before .before .before in
     let s = first m in
-    let is = subst (ProductIs (product (bytes s))) (c .before .before .before .before .before .before .size .given .1) (product-is m) in
+    let is = subst (ProductIs (product (bytes s))) (c .before .before .before .before .before .before .before .before .size .given .1) (product-is m) in
     decide-searched (s .args .budget) (bytes s) (s .args .work .now) (s .args .witness .now) (fits s) (table-laid (bytes s) (ok s) (laid m .lay-table .ensures))
     (is .1) (c .before .before .search .ensures)
 
@@ -111,10 +133,15 @@ pub lay-and-search-spec : {M : Type 1} → statement M
 lay-and-search-spec =
     tie.close
     (tie.spec
+    slice-aggregate-lay-table
+    slice-aggregate-lay-table-2
+    slice-aggregate-lay-table-3
     lay-table-requires
     measure-requires
     enum-told
     enum-known-size
+    slice-aggregate-search
+    slice-aggregate-search-2
     search-requires
     same-length
     returns

@@ -4,7 +4,7 @@ use mathlib.Core.Path.{ap, _∙_}
 use Prim.Native.Nat.{ℕ, _-_}
 use native.Mathlib.Omega.{arith}
 use mathlib.Core.List.{List}
-use lib.ListN.{getD}
+use lib.ListN.{getD, length-replicate}
 use Rattle.theorems.proofs.Accepted.{Accepted}
 use Rattle.elimination.proofs.Promising.{refused-by, not-refused, is-accepted, refused-first, refused-short, taken}
 use Rattle.elimination.proofs.Promising.{refusal-promised, table-promised, nodes-laid, table-laid, root-laid}
@@ -35,15 +35,30 @@ two-at-requires c κs = omega (arith, ok (c .before) .header)
 sub-last : tie.Need-sub-last
 sub-last c = omega (arith, ok (c .before .before) .some-nodes, c .two-at .ensures .0)
 
+slice-aggregate-lay-table : tie.Need-slice-aggregate-lay-table
+slice-aggregate-lay-table c = search needs
+
+slice-aggregate-lay-table-2 : tie.Need-slice-aggregate-lay-table-2
+slice-aggregate-lay-table-2 c = search needs
+
+slice-aggregate-lay-table-3 : tie.Need-slice-aggregate-lay-table-3
+slice-aggregate-lay-table-3 c = search needs
+
 lay-table-requires : tie.Need-lay-table-requires
-lay-table-requires c κs = (ok (c .before .before .before), c .before .before .if1 .left)
+lay-table-requires c κs = (
+  ok (c .before .before .before .before .before .before),
+  c .before .before .before .before .before .if1 .left,
+  length-replicate {A = ℕ} 256 0,
+  length-replicate {A = ℕ} 40 0,
+  length-replicate {A = ℕ} 40 0,
+)
 
 mul-number : tie.Need-mul-number
 mul-number c = search needs
 
 array-read-number : tie.Need-array-read-number
 array-read-number c =
-    let read = c .before .before .before .before .before in
+    let read = c .before .before .before .before .before .before .before .before .before .before in
     let accepted = ok (read .before .before) in
     omega (arith, accepted .few-nodes, accepted .some-nodes, read .two-at .ensures .0)
 
@@ -65,12 +80,12 @@ same-length c = search needs
 
 returns-3 : tie.Need-returns-3
 returns-3 c =
-    let laid = c .before .before .before .before in
-    let told = laid .before .before .before .before in
+    let laid = c .before .before .before .before .before .before in
+    let told = laid .before .before .before .before .before .before .before in
     let none = not-refused (told .before .before .check .ensures) (told .enum-told .given .1) in
     let all = laid .lay-table .ensures in
-    let last = c .number .ensures ∙ ap (λ n. getD (laid .lay-table .result .images) (n - 1) 0) (laid .before .before .two-at .ensures .0) in
-    let long = laid .before .before .before .if1 .left in
+    let last = c .number .ensures ∙ ap (λ n. getD (laid .lay-table .last .1 .1 .0) (n - 1) 0) (laid .before .before .before .before .before .two-at .ensures .0) in
+    let long = laid .before .before .before .before .before .before .if1 .left in
     table-promised _ _ (taken _ _ none long) (nodes-laid _ (ok told) all) (last ∙ root-laid _ (ok told) all)
     (table-laid _ (ok told) all)
 
@@ -83,6 +98,9 @@ eliminate-spec =
     enum-told
     two-at-requires
     sub-last
+    slice-aggregate-lay-table
+    slice-aggregate-lay-table-2
+    slice-aggregate-lay-table-3
     lay-table-requires
     mul-number
     array-read-number

@@ -1,7 +1,7 @@
 -- `lay_table` takes the nodes in order. The loop's invariant: what is at hand is that of the first k nodes, whose table stands
 -- at the start of the buffer. Assumes nothing.
 use borrow.Author.Needs.{needs}
-use mathlib.Core.Path.{_≡_, refl, sym, _∙_, subst}
+use mathlib.Core.Path.{_≡_, refl, sym, _∙_}
 use Prim.Native.Nat.{ℕ, _-_, _≤_}
 use native.Mathlib.Omega.{arith}
 use mathlib.Core.List.{List}
@@ -10,21 +10,21 @@ use Rattle.definitions.specs.Problem.Node.{tableBytes}
 use Rattle.definitions.specs.Problem.Check.{nodeCount}
 use Rattle.definitions.specs.Operations.Buffers.{over}
 use Rattle.problem.specs.Shape.{Shaped}
-use Rattle.elimination.specs.State.{stateAt, LaidAt}
-use Rattle.elimination.proofs.StateLaws.{laid-none}
+use Rattle.elimination.specs.State.{stateAt, laidOf, LaidAt}
+use Rattle.elimination.proofs.StateLaws.{laid-same, laid-none}
 use Rattle.elimination.proofs.Promising.{shaped}
 use Rattle.elimination.proofs.lay_table.Statement.{statement}
 use Rattle.elimination.proofs.lay_table.Tie as tie
 
 abbrev Inv-loop : tie.InvT-loop
-Inv-loop problem work₀ symbols nodes all₀ k₀ work all k =
+Inv-loop problem work₀ images₀ apps₀ owns₀ symbols nodes all₀ k₀ work images apps owns all k =
     (k ≤ nodes)
-    × LaidAt problem k all
+    × LaidAt problem k (laidOf images apps owns all)
     × (work ≡ over (tableBytes (stateAt problem k .out)) work₀)
     × (length work ≡ length work₀)
 
 abbrev μ-loop : tie.MeasureT-loop
-μ-loop problem work₀ symbols nodes all₀ k₀ work all k = nodes - k
+μ-loop problem work₀ images₀ apps₀ owns₀ symbols nodes all₀ k₀ work images apps owns all k = nodes - k
 
 shared-slice-read-wide : tie.Need-shared-slice-read-wide Inv-loop μ-loop
 shared-slice-read-wide c = search needs
@@ -40,13 +40,15 @@ none-requires c κs = search needs
 
 loop-holds : tie.Need-loop-holds Inv-loop μ-loop
 loop-holds c =
-    let s = c .before .before .before .before .before .before .args .problem .now in
-    (omega arith, subst (LaidAt s 0) (sym (c .none .ensures)) (laid-none s), refl, refl)
+    let st = c .before .before .before .before .before .before .before .before .before in
+    let s = st .args .problem .now in
+    let none = laid-none s _ _ _ (st .pre .2) (st .pre .3) (st .pre .4) in
+    (omega arith, laid-same (c .none .ensures) none, refl, refl)
 
 -- the problem, and the header that was read
 module _ (c : tie.At-loop Inv-loop μ-loop) where
   abbrev start : tie.Start Inv-loop μ-loop
-  start = c .before .before .before .before .before .before .before
+  start = c .before .before .before .before .before .before .before .before .before .before
 
   abbrev bytes : List ℕ
   bytes = start .args .problem .now
@@ -56,9 +58,9 @@ module _ (c : tie.At-loop Inv-loop μ-loop) where
 
 take-node-requires : tie.Need-take-node-requires Inv-loop μ-loop
 take-node-requires c κs =
-    let at = c .before .before in
+    let at = c .before .before .before .before .before in
     let p = start at .pre in
-    (p .0, header at, c .before .loop-test .taken, omega (arith, p .1, at .loop .inv .3), at .loop .inv .1)
+    (p .0, header at, c .before .before .before .before .loop-test .taken, omega (arith, p .1, at .loop .inv .3), at .loop .inv .1)
 
 add-k : tie.Need-add-k Inv-loop μ-loop
 add-k c = search needs
@@ -68,8 +70,8 @@ loop-less c = search needs
 
 loop-again : tie.Need-loop-again Inv-loop μ-loop
 loop-again c =
-    let took = c .before .before in
-    let at = took .before .before .before in (
+    let took = c .before .before .before .before .before .before .before .before in
+    let at = took .before .before .before .before .before .before in (
       omega arith,
       took .take-node .ensures .0,
       took .take-node .ensures .1 _ (at .loop .inv .2),
@@ -78,6 +80,16 @@ loop-again c =
 
 same-length : tie.Need-same-length Inv-loop μ-loop
 same-length c = search needs
+
+-- the lists that are lent keep their lengths
+same-length-2 : tie.Need-same-length-2 Inv-loop μ-loop
+same-length-2 c = c .before .loop .inv .1 .images-long ∙ sym (start (c .before) .pre .2)
+
+same-length-3 : tie.Need-same-length-3 Inv-loop μ-loop
+same-length-3 c = c .before .loop .inv .1 .apps-long ∙ sym (start (c .before) .pre .3)
+
+same-length-4 : tie.Need-same-length-4 Inv-loop μ-loop
+same-length-4 c = c .before .loop .inv .1 .owns-long ∙ sym (start (c .before) .pre .4)
 
 returns : tie.Need-returns Inv-loop μ-loop
 returns c =
@@ -101,4 +113,7 @@ lay-table-spec =
     loop-less
     loop-again
     same-length
+    same-length-2
+    same-length-3
+    same-length-4
     returns)

@@ -5,7 +5,7 @@ use mathlib.Core.Path.{_≡_, sym, subst}
 use Prim.Native.Nat.{ℕ, _≤_}
 use mathlib.Core.List.{List}
 use mathlib.Core.Option.{none}
-use lib.ListN.{length}
+use lib.ListN.{length, length-replicate}
 use Rattle.definitions.specs.Problem.Check.{nodesOf, functionsIn, predicatesIn}
 use Rattle.definitions.specs.Ranges.{topsOf, product, padded}
 use Rattle.definitions.specs.Operations.Answers.{eliminateRefusal}
@@ -47,19 +47,34 @@ module _ (c : tie.After-functions) where
   fits : 21056 ≤ length (start .args .work .now) → eliminateRefusal bytes (length (start .args .work .now)) ≡ none
   fits h = taken bytes (length (start .args .work .now)) (not-refused (c .before .before .check .ensures) (c .functions .given .1)) h
 
+slice-aggregate-lay-table : tie.Need-slice-aggregate-lay-table
+slice-aggregate-lay-table c = search needs
+
+slice-aggregate-lay-table-2 : tie.Need-slice-aggregate-lay-table-2
+slice-aggregate-lay-table-2 c = search needs
+
+slice-aggregate-lay-table-3 : tie.Need-slice-aggregate-lay-table-3
+slice-aggregate-lay-table-3 c = search needs
+
 lay-table-requires : tie.Need-lay-table-requires
-lay-table-requires c κs = (ok (c .before .before .before), c .before .if1 .left)
+lay-table-requires c κs = (
+  ok (c .before .before .before .before .before .before),
+  c .before .before .before .before .if1 .left,
+  length-replicate {A = ℕ} 256 0,
+  length-replicate {A = ℕ} 40 0,
+  length-replicate {A = ℕ} 40 0,
+)
 
 -- the table is laid
 module _ (c : tie.After-lay-table) where
   abbrev told : tie.After-functions
-  told = c .before .before .before .before
+  told = c .before .before .before .before .before .before .before
 
   abbrev work′ : List ℕ
   work′ = c .lay-table .last .1 .0
 
   long : 21056 ≤ length work′
-  long = let room = c .before .before .if1 .left in let same = c .lay-table .kept .1 .0 in omega arith
+  long = let room = c .before .before .before .before .before .if1 .left in let same = c .lay-table .kept .1 .0 in omega arith
 
   functions-are : told .functions .given .0 .0 ≡ functionsIn (nodesOf (bytes told))
   functions-are = functions-answered (told .before .before .check .ensures) (told .functions .given .1)
@@ -69,13 +84,13 @@ module _ (c : tie.After-lay-table) where
 
 measure-requires : tie.Need-measure-requires
 measure-requires c κs =
-    let l = c .before .before .before in
+    let l = c .before .before .before .before .before .before in
     table-stands (bytes (told l)) (ok (told l)) (l .lay-table .ensures) (long l) (functions-are l) (predicates-are l)
 
 -- and measured
 module _ (c : tie.After-measure) where
   abbrev laid : tie.After-lay-table
-  laid = c .before .before .before .before
+  laid = c .before .before .before .before .before .before .before
 
   tops-are : c .measure .result .tops ≡ padded (topsOf (bytes (told laid)))
   tops-are =
@@ -115,10 +130,10 @@ same-length c = search needs
 
 returns-3 : tie.Need-returns-3
 returns-3 c =
-    let l = c .before .before .before .before .before .before .before .before in
+    let l = c .before .before .before .before .before .before .before .before .before .before .before in
     let s = start (told l) .args in
     subst (λ (r : Ranges). RangesPromise (s .problem .now) (s .work .now) r (work′ l)) (sym (c .refused3 .ensures))
-    (ranges-big (s .problem .now) (s .work .now) (fits (told l) (c .before .before .before .before .before .before .before .before .before .before .if1 .left)) (table-laid _ (ok (told l)) (l .lay-table .ensures))
+    (ranges-big (s .problem .now) (s .work .now) (fits (told l) (c .before .before .before .before .before .before .before .before .before .before .before .before .before .before .before .before .if1 .left)) (table-laid _ (ok (told l)) (l .lay-table .ensures))
     (subst (ProductIs (product (s .problem .now))) (c .before .enum-told .given .1) (product-is (c .before .before .before .before))))
 
 same-length-2 : tie.Need-same-length-2
@@ -126,10 +141,10 @@ same-length-2 c = search needs
 
 returns-4 : tie.Need-returns-4
 returns-4 c =
-    let l = c .before .before .before .before .before .before .before .before in
+    let l = c .before .before .before .before .before .before .before .before .before .before .before in
     let s = start (told l) .args in
     let is = subst (ProductIs (product (s .problem .now))) (c .before .size .given .1) (product-is (c .before .before .before .before)) in
-    ranges-given (s .problem .now) (s .work .now) (fits (told l) (c .before .before .before .before .before .before .before .before .before .before .if1 .left)) (table-laid _ (ok (told l)) (l .lay-table .ensures))
+    ranges-given (s .problem .now) (s .work .now) (fits (told l) (c .before .before .before .before .before .before .before .before .before .before .before .before .before .before .before .before .if1 .left)) (table-laid _ (ok (told l)) (l .lay-table .ensures))
     _ _ _ (tops-are (c .before .before .before .before)) (predicates-are l) (is .0) (is .1)
 
 pub ranges-spec : {M : Type 1} → statement M
@@ -141,6 +156,9 @@ ranges-spec =
     refused-requires
     enum-known-functions
     refused-requires-2
+    slice-aggregate-lay-table
+    slice-aggregate-lay-table-2
+    slice-aggregate-lay-table-3
     lay-table-requires
     measure-requires
     enum-told

@@ -12,9 +12,8 @@ use Rattle.problem.proofs.Putting.{tail-whole, put-there}
 use Rattle.definitions.specs.Problem.Ops.{arity}
 use Rattle.definitions.specs.Elimination.{imagesOf}
 use Rattle.definitions.specs.Witness.{Row, rowBytes}
-use Rattle.elimination.specs.State.{stateAt, three}
-use Rattle.elimination.specs.declared.laid.Laid.{Laid}
-use Rattle.decision.proofs.RowLaws.{nodes-fit, rows-room, row-read}
+use Rattle.elimination.specs.State.{stateAt, Laid, laidOf, LaidAt, three}
+use Rattle.decision.proofs.RowLaws.{image-fits, rows-room, images-fit, row-read}
 use Rattle.decision.proofs.witness.write_row.Statement.{statement}
 use Rattle.decision.proofs.witness.write_row.Tie as tie
 
@@ -22,23 +21,25 @@ module _ (c : tie.Start) where
   abbrev s : List ℕ
   s = c .args .problem .now
 
-  -- what is laid (t4 is the parameter, before it is lent)
+  -- what is laid
   abbrev all : Laid
-  all = c .args .t4
+  all = laidOf (c .args .images .now) (c .args .apps .now) (c .pre .2 .owns) (c .args .all)
+
+  laid : LaidAt s (nodeCount s) all
+  laid = c .pre .2 .laid
 
   -- the application's node, as it is laid
   abbrev app : ℕ
   app = getD (all .apps) (c .args .i) 0
 
   few : c .args .i < 40
-  few = rows-room s (c .pre .0) all (c .pre .2) (c .args .i) (c .pre .3)
+  few = rows-room s (c .pre .0) all laid (c .args .i) (c .pre .3)
 
-  -- whichever of the application's nodes is read, its number is a node's of the table
-  low : (getD (all .images) app 0 < 2632) × (getD (all .owns) (c .args .i) 0 < 2632)
-  low = nodes-fit s (c .pre .0) all (c .pre .2) (c .args .i) (c .pre .3)
+  low : getD (all .images) app 0 < all .nodes
+  low = image-fits s (c .pre .0) all laid (c .args .i) (c .pre .3)
 
-array-read-wide : tie.Need-array-read-wide
-array-read-wide c = let f = few (c .before .before .before .before .before) in omega arith
+shared-slice-read-wide : tie.Need-shared-slice-read-wide
+shared-slice-read-wide c = let st = c .before .before .before .before .before .before in omega (arith, few st, laid st .apps-long)
 
 wide-requires : tie.Need-wide-requires
 wide-requires c κs = search needs
@@ -46,7 +47,7 @@ wide-requires c κs = search needs
 -- and as it is read
 module _ (c : tie.After-wide) where
   abbrev start : tie.Start
-  start = c .before .before .before .before .before .before
+  start = c .before .before .before .before .before .before .before
 
   abbrev q : ℕ
   q = c .wide .result
@@ -56,7 +57,7 @@ module _ (c : tie.After-wide) where
 
   q-node : q < start .args .nodes
   q-node =
-      let earlier = start .pre .2 .app-before (start .args .i) (start .pre .3) in
+      let earlier = laid start .app-before (start .args .i) (start .pre .3) in
       let nodes-are = start .pre .1 .nodes-are in
       let is = q-is in
       omega arith
@@ -89,60 +90,74 @@ wide-requires-2 c κs = search needs
 arity-of-requires : tie.Need-arity-of-requires
 arity-of-requires c κs = search needs
 
-slice-aggregate-images-of : tie.Need-slice-aggregate-images-of
-slice-aggregate-images-of c = search needs
-
 images-of-requires : tie.Need-images-of-requires
 images-of-requires c κs =
-    let got = c .before .before .before .before .before in
+    let got = c .before .before .before .before in
     let st = start got in
-    let inside = q-node got in
-    let laid = st .pre .2 in (
+    let inside = q-node got in (
       st .pre .0,
       st .pre .1,
       omega arith,
       inside,
       omega arith,
-      laid .images-long,
-      subst (λ k. take k (all st .images) ≡ stateAt (s st) k .images) (sym (st .pre .1 .nodes-are)) (laid .images-are),
+      laid st .images-long,
+      subst (λ k. take k (all st .images) ≡ stateAt (s st) k .images) (sym (st .pre .1 .nodes-are)) (laid st .images-are),
     )
+
+-- the images of its operands, which are nodes of the table
+module _ (c : tie.After-images-of) where
+  abbrev reading : tie.After-wide
+  reading = c .before .before .before .before .before
+
+  abbrev given : tie.Start
+  given = start reading
+
+  operands-read : c .images-of .result
+      ≡ three (imagesOf (symbolsOf (s given)) (stateAt (s given) (nodeCount (s given)) .images) (node (nodesOf (s given)) (app given)))
+  operands-read =
+      c .images-of .ensures .0
+      ∙ ap₂ (λ (k n : ℕ). three (imagesOf (symbolsOf (s given)) (stateAt (s given) k .images) (node (nodesOf (s given)) n))) (given .pre .1 .nodes-are) (q-is reading)
+
+  operand-fits : (j : ℕ) → j < 3 → getD (c .images-of .result) j 0 < length (given .args .values .now)
+  operand-fits j h =
+      let room = given .pre .4 in
+      let fits = images-fit (s given) (given .pre .0) (all given) (laid given) (given .args .i) (given .pre .3) 0 (given .args .values .now) (c .images-of .result) operands-read j h in
+      omega arith
 
 array-read-argument : tie.Need-array-read-argument
 array-read-argument c = search needs
 
 argument-requires : tie.Need-argument-requires
-argument-requires c κs = search needs
+argument-requires c κs = operand-fits c 0 (omega arith)
 
 array-read-argument-2 : tie.Need-array-read-argument-2
 array-read-argument-2 c = search needs
 
 argument-requires-2 : tie.Need-argument-requires-2
-argument-requires-2 c κs = search needs
+argument-requires-2 c κs = operand-fits (c .before) 1 (omega arith)
 
 array-read-argument-3 : tie.Need-array-read-argument-3
 array-read-argument-3 c = search needs
 
 argument-requires-3 : tie.Need-argument-requires-3
-argument-requires-3 c κs = search needs
+argument-requires-3 c κs = operand-fits (c .before .before) 2 (omega arith)
 
 value-at-requires : tie.Need-value-at-requires
 value-at-requires c κs =
-    let got = c .before .before .before .before .before .before .before .before .before .before .before .before in
+    let got = c .before .before .before .before .before .before .before .before in
     let st = start got in
     let few-nodes = st .pre .1 .few-nodes in
     let inside = q-node got in
-    let images-long = st .pre .2 .images-long in
-    let owns-long = st .pre .2 .owns-long in
+    let images-long = laid st .images-long in
     let values-long = st .pre .4 in
-    let room = few st in
-    let fit = low st in
+    let fits = low st in
     let is = ap (λ n. getD (all st .images) n 0) (q-is got) in
     (omega arith, omega arith)
 
 -- where the row goes
 module _ (c : tie.After-value-at) where
   abbrev got : tie.After-wide
-  got = c .before .before .before .before .before .before .before .before .before .before .before .before .before
+  got = c .before .before .before .before .before .before .before .before .before
 
   abbrev first : tie.Start
   first = start got
@@ -188,22 +203,13 @@ module _ (c : tie.After-arity-of) where
       ∙ ap (λ (n : Node). n .sym) (node-stands (start looked .pre .1) (q looked) _ (c .before .before .before .node-at .ensures) (q-node looked))
       ∙ sym (c .before .wide2 .ensures .0)
 
--- the images of its operands
-operands-read : (c : tie.After-images-of) → let st = start (c .before .before .before .before .before .before) in
-    c .images-of .result ≡ three (imagesOf (symbolsOf (s st)) (stateAt (s st) (nodeCount (s st)) .images) (node (nodesOf (s st)) (app st)))
-operands-read c =
-    let looked = c .before .before .before .before .before .before in
-    let st = start looked in
-    c .images-of .ensures .0
-    ∙ ap₂ (λ (k n : ℕ). three (imagesOf (symbolsOf (s st)) (stateAt (s st) k .images) (node (nodesOf (s st)) n))) (st .pre .1 .nodes-are) (q-is looked)
-
 returns : tie.Need-returns
 returns c = λ p are.
     let valued = c .before .before .before .before in
     let st = first valued in
-    let third = valued .before .before .before .before in
+    let third = valued .before in
     let given = third .before .before .before in
-    let read = given .before .before in
+    let read = given .before in
     let f = few st in
     let room = st .pre .5 in
     let old = st .args .witness .now in
@@ -211,7 +217,7 @@ returns c = λ p are.
     let values = st .args .values .now in
     put-there old (6 + 5 * i) (omega arith) _ (c .before .before .put-row .last .0) (c .before .before .put-row .ensures)
     ∙ ap (λ (r : Row). take (6 + 5 * i) old ++ rowBytes r ++ drop (6 + 5 * i + 5) old)
-    (row-read (s st) (st .pre .0) (all st) (st .pre .2) i (st .pre .3) p values (given .images-of .result) (operands-read given)
+    (row-read (s st) (st .pre .0) (all st) (laid st) i (st .pre .3) p values (given .images-of .result) (operands-read given)
     _
     (read .arity-of .result)
     (third .before .before .argument .result)
@@ -230,14 +236,13 @@ pub write-row-spec : {M : Type 1} → statement M
 write-row-spec =
     tie.close
     (tie.spec
-    array-read-wide
+    shared-slice-read-wide
     wide-requires
     node-at-requires
     add-symbol
     shared-slice-read-symbol
     wide-requires-2
     arity-of-requires
-    slice-aggregate-images-of
     images-of-requires
     array-read-argument
     argument-requires

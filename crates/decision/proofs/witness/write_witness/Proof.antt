@@ -15,35 +15,35 @@ use Rattle.decision.proofs.witness.write_witness.Statement.{statement}
 use Rattle.decision.proofs.witness.write_witness.Tie as tie
 
 abbrev Inv-loop : tie.InvT-loop
-Inv-loop problem all values witness₀ symbols nodes count i₀ witness i = Writing problem values witness₀ count witness i
+Inv-loop problem images apps all values witness₀ symbols nodes count i₀ witness i = Writing problem values witness₀ count witness i
 
 abbrev μ-loop : tie.MeasureT-loop
-μ-loop problem all values witness₀ symbols nodes count i₀ witness i = count - i
+μ-loop problem images apps all values witness₀ symbols nodes count i₀ witness i = count - i
 
 few : (c : tie.Start Inv-loop μ-loop) → c .args .all .count ≤ 40
 few c =
     let s = c .args .problem .now in
-    omega (arith, apps-few s (c .pre .0) (nodeCount s) (omega arith), c .pre .1 .count-is)
+    omega (arith, apps-few s (c .pre .0) (nodeCount s) (omega arith), c .pre .1 .laid .count-is)
 
 shared-slice-read-wide : tie.Need-shared-slice-read-wide Inv-loop μ-loop
-shared-slice-read-wide c = omega (arith, c .before .before .before .before .pre .0 .header)
+shared-slice-read-wide c = omega (arith, c .before .before .before .before .before .before .pre .0 .header)
 
 wide-requires : tie.Need-wide-requires Inv-loop μ-loop
 wide-requires c κs = search needs
 
 two-at-requires : tie.Need-two-at-requires Inv-loop μ-loop
-two-at-requires c κs = omega (arith, c .before .before .before .before .before .pre .0 .header)
+two-at-requires c κs = omega (arith, c .before .before .before .before .before .before .before .pre .0 .header)
 
 cast-put-head : tie.Need-cast-put-head Inv-loop μ-loop
 cast-put-head c = search needs
 
 put-head-requires : tie.Need-put-head-requires Inv-loop μ-loop
-put-head-requires c κs = let room = c .before .before .before .before .before .before .before .pre .3 in omega arith
+put-head-requires c κs = let room = c .before .before .before .before .before .before .before .before .before .pre .3 in omega arith
 
 -- after the head
 module _ (c : tie.After-put-head Inv-loop μ-loop) where
   abbrev start : tie.Start Inv-loop μ-loop
-  start = c .before .before .before .before .before .before .before .before
+  start = c .before .before .before .before .before .before .before .before .before .before
 
   abbrev count : ℕ
   count = start .args .all .count
@@ -64,7 +64,7 @@ loop-holds c =
     let put = c .before .before in
     let s = start put in
     let problem = s .args .problem .now in
-    writing-none problem (s .args .values .now) (w₀ put) (count put) (rows-many problem (s .pre .0) (s .args .all) (s .pre .1)) (w₀ put) refl
+    writing-none problem (s .args .values .now) (w₀ put) (count put) (rows-many problem (s .pre .0) _ (s .pre .1 .laid)) (w₀ put) refl
     (head-stands (count put) (s .args .witness .now) (w₀ put) (head-put put))
 
 write-row-requires : tie.Need-write-row-requires Inv-loop μ-loop
@@ -95,7 +95,7 @@ loop-again c =
     let put = c .before .before .before .before .before .before .before .before in
     let s = start put in
     writing-more (s .args .problem .now) (s .args .values .now) (w₀ put) (count put) (l .witness) (l .i) (l .inv) _ (c .before .before .before .before .loop-test .taken)
-    (c .before .before .write-row .kept .1 .1 .1 .1 .1 .1 .0) (c .before .before .write-row .ensures)
+    (c .before .before .write-row .kept .1 .1 .1 .1 .1 .1 .1 .1 .0) (c .before .before .write-row .ensures)
 
 mul-result : tie.Need-mul-result Inv-loop μ-loop
 mul-result c = let f = few (start (c .before .before .before .before)) in omega arith

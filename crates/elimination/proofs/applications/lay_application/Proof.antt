@@ -47,7 +47,7 @@ module _ (c : tie.Start) where
   has-room = omega (arith, c .pre .4 .nodes-are, room bytes (c .pre .0) k within (node (nodesOf bytes) k) (c .pre .5) added)
 
 lay-requires : tie.Need-lay-requires
-lay-requires c κs = omega (arith, has-room (c .before .before .before .before .before))
+lay-requires c κs = omega (arith, has-room (c .before .before .before .before .before .before .before .before))
 
 lay-choices-requires : tie.Need-lay-choices-requires
 lay-choices-requires c κs = search needs
@@ -59,7 +59,7 @@ returns : tie.Need-returns
 returns c =
     let chose = c .before .before in
     let own = chose .before .before .before .before in
-    let st = own .before .before .before .before .before .before in
+    let st = own .before .before .before .before .before .before .before .before .before in
     let s = bytes st in
     let n = node (nodesOf s) (k st) in
     let stands = node-stands (st .pre .1) (k st) _ (own .before .before .before .node-at .ensures) (st .pre .2) in

@@ -47,16 +47,13 @@ wide-requires c κs = search needs
 arity-of-requires : tie.Need-arity-of-requires Inv-loop μ-loop
 arity-of-requires c κs = search needs
 
-slice-aggregate-images-of : tie.Need-slice-aggregate-images-of Inv-loop μ-loop
-slice-aggregate-images-of c = search needs
-
 images-of-requires : tie.Need-images-of-requires Inv-loop μ-loop
 images-of-requires c κs = search needs
 
 -- node k has been read, with the images of its operands
 module _ (c : tie.After-images-of Inv-loop μ-loop) where
   abbrev entry : tie.Start Inv-loop μ-loop
-  entry = c .before .before .before .before .before .before .before .before .before .before .before
+  entry = c .before .before .before .before .before .before .before .before .before .before
 
   abbrev bytes : List ℕ
   bytes = entry .args .problem .now
@@ -70,13 +67,13 @@ module _ (c : tie.After-images-of Inv-loop μ-loop) where
   within : k < nodeCount bytes
   within = omega (arith, entry .pre .1 .nodes-are)
 
-  stands : theNode ≡ nodeAt bytes (c .before .before .before .before .before .node-at .result)
-  stands = node-stands (entry .pre .1) k _ (c .before .before .before .before .before .node-at .ensures) (entry .pre .2)
+  stands : theNode ≡ nodeAt bytes (c .before .before .before .before .node-at .result)
+  stands = node-stands (entry .pre .1) k _ (c .before .before .before .before .node-at .ensures) (entry .pre .2)
 
-  arity-read : c .before .before .arity-of .result ≡ arity (symbolsOf bytes) (theNode .sym)
+  arity-read : c .before .arity-of .result ≡ arity (symbolsOf bytes) (theNode .sym)
   arity-read =
-      c .before .before .arity-of .ensures .0
-      ∙ ap (arity (symbolsOf bytes)) (c .before .before .before .wide .ensures .0 ∙ ap (λ (n : Node). n .sym) (sym stands))
+      c .before .arity-of .ensures .0
+      ∙ ap (arity (symbolsOf bytes)) (c .before .before .wide .ensures .0 ∙ ap (λ (n : Node). n .sym) (sym stands))
 
   has-room : entry .args .before .nodes + 1 + 6 * length (keep (sameSymbol theNode) (stateAt bytes k .apps)) ≤ 2632
   has-room =
@@ -125,8 +122,8 @@ module _ (c : tie.In-loop Inv-loop μ-loop) where
       let few = apps-few (bytes read) (start .pre .0) (k read) (omega (arith, within read)) in
       omega (arith, i-few, start .pre .4 .count-is)
 
-array-read-wide : tie.Need-array-read-wide Inv-loop μ-loop
-array-read-wide c = i-small c
+shared-slice-read-wide-2 : tie.Need-shared-slice-read-wide-2 Inv-loop μ-loop
+shared-slice-read-wide-2 c = omega (arith, i-small (c .before), start (c .before) .pre .4 .apps-long)
 
 wide-requires-2 : tie.Need-wide-requires-2 Inv-loop μ-loop
 wide-requires-2 c κs = search needs
@@ -134,7 +131,7 @@ wide-requires-2 c κs = search needs
 -- and its node
 module _ (c : tie.After-wide2 Inv-loop μ-loop) where
   abbrev turn : tie.In-loop Inv-loop μ-loop
-  turn = c .before
+  turn = c .before .before
 
   abbrev q : ℕ
   q = c .wide2 .result
@@ -153,12 +150,9 @@ same-symbol-requires c κs =
     let p = start (turn c) .pre in
     (p .1, omega (arith, q-before c, p .2), p .2)
 
-slice-aggregate-images-of-2 : tie.Need-slice-aggregate-images-of-2 Inv-loop μ-loop
-slice-aggregate-images-of-2 c = search needs
-
 images-of-requires-2 : tie.Need-images-of-requires-2 Inv-loop μ-loop
 images-of-requires-2 c κs =
-    let looked = c .before .before .before in
+    let looked = c .before .before in
     let p = start (turn looked) .pre in
     let earlier = q-before looked in
     (p .0, p .1, omega arith, omega (arith, p .2), omega (arith, p .2), p .4 .images-long, p .4 .images-are)
@@ -166,19 +160,19 @@ images-of-requires-2 c κs =
 -- the application is of the symbol, and the arguments of both are at hand
 module _ (c : tie.After-images-of2 Inv-loop μ-loop) where
   abbrev looked : tie.After-wide2 Inv-loop μ-loop
-  looked = c .before .before .before .before
+  looked = c .before .before .before
 
   abbrev seen : tie.After-images-of Inv-loop μ-loop
   seen = read (turn looked)
 
   abbrev ar : ℕ
-  ar = seen .before .before .arity-of .result
+  ar = seen .before .arity-of .result
 
   abbrev other : Node
   other = node (nodesOf (bytes seen)) (q looked)
 
   one-symbol : oneSymbol other (theNode seen) ≡ true
-  one-symbol = sym (c .before .before .before .same-symbol .ensures) ∙ c .before .before .if2 .taken
+  one-symbol = sym (c .before .before .same-symbol .ensures) ∙ c .before .if2 .taken
 
   same : sameSymbol (theNode seen) (app (turn looked)) ≡ true
   same = sym (tested looked) ∙ one-symbol
@@ -218,19 +212,22 @@ module _ (c : tie.After-images-of2 Inv-loop μ-loop) where
 mul-number : tie.Need-mul-number Inv-loop μ-loop
 mul-number c = omega (arith, i-small (turn (looked c)))
 
-array-read-number : tie.Need-array-read-number Inv-loop μ-loop
-array-read-number c = omega (arith, i-small (turn (looked c)))
+shared-slice-read-number : tie.Need-shared-slice-read-number Inv-loop μ-loop
+shared-slice-read-number c =
+    let t = turn (looked (c .before)) in
+    let long = start t .pre .4 in
+    omega (arith, i-small t)
 
 number-requires : tie.Need-number-requires Inv-loop μ-loop
 number-requires c κs = search needs
 
 -- the own variable of the application
-own-is : (c : tie.After-number Inv-loop μ-loop) → c .number .result ≡ app (turn (looked (c .before))) .own
-own-is c = let t = turn (looked (c .before)) in c .number .ensures ∙ start t .pre .4 .app-own (i t) (i-few t)
+own-is : (c : tie.After-number Inv-loop μ-loop) → c .number .result ≡ app (turn (looked (c .before .before))) .own
+own-is c = let t = turn (looked (c .before .before)) in c .number .ensures ∙ start t .pre .4 .app-own (i t) (i-few t)
 
 lay-choice-requires : tie.Need-lay-choice-requires Inv-loop μ-loop
 lay-choice-requires c κs =
-    let arg = c .before .before in
+    let arg = c .before .before .before in
     let t = turn (looked arg) in
     let inv = t .before .loop .inv in
     let p = start t .pre in
@@ -253,7 +250,7 @@ loop-less c = search needs
 loop-again : tie.Need-loop-again Inv-loop μ-loop
 loop-again c =
     let owned = c .before .before .before .before in
-    let arg = owned .before in
+    let arg = owned .before .before in
     let t = turn (looked arg) in
     let laid = c .before .before .lay-choice in
     let s = bytes (read t) in
@@ -267,7 +264,7 @@ loop-less-2 c = search needs
 
 loop-again-2 : tie.Need-loop-again-2 Inv-loop μ-loop
 loop-again-2 c =
-    let t = c .before .before .before in
+    let t = c .before .before .before .before in
     let other = sym (tested (c .before .before)) ∙ sym (c .before .same-symbol .ensures) ∙ c .if2 .left in
     choosing-other (bytes (read t)) (k (read t)) _ _ _ _ _ (t .before .loop .inv) (t .loop-test .taken) other
 
@@ -290,19 +287,17 @@ lay-choices-spec =
     shared-slice-read-wide
     wide-requires
     arity-of-requires
-    slice-aggregate-images-of
     images-of-requires
     shared-slice-read-if1
     add-at
     loop-holds
     sub-i
-    array-read-wide
+    shared-slice-read-wide-2
     wide-requires-2
     same-symbol-requires
-    slice-aggregate-images-of-2
     images-of-requires-2
     mul-number
-    array-read-number
+    shared-slice-read-number
     number-requires
     lay-choice-requires
     loop-less

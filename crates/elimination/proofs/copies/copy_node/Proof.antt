@@ -1,5 +1,5 @@
 -- `copy_node` lays the node on its operands' images straight after the table, and the step taken is a copy. Assumes nothing.
-use mathlib.Core.Path.{_≡_, sym, ap, ap₂, _∙_, subst}
+use mathlib.Core.Path.{_≡_, sym, ap, ap₂, _∙_}
 use Prim.Native.Nat.{ℕ, _+_, _≤_, _<_}
 use native.Mathlib.Omega.{arith}
 use mathlib.Core.List.{List}
@@ -10,15 +10,11 @@ use Rattle.definitions.specs.Problem.Check.{nodeCount, symbolsOf, nodesOf}
 use Rattle.definitions.specs.Elimination.{State, copy}
 use Rattle.problem.proofs.NodeLaws.{node-stands}
 use Rattle.elimination.specs.Lays.{nodeOf}
-use Rattle.elimination.specs.State.{stateAt, LaidAt}
-use Rattle.elimination.proofs.StateLaws.{laid-copy}
+use Rattle.elimination.specs.State.{stateAt}
 use Rattle.elimination.proofs.Stepping.{step-lays, next-copy, copy-room}
 use borrow.Author.Needs.{needs}
 use Rattle.elimination.proofs.copies.copy_node.Statement.{statement}
 use Rattle.elimination.proofs.copies.copy_node.Tie as tie
-
-slice-aggregate-images-of : tie.Need-slice-aggregate-images-of
-slice-aggregate-images-of c = search needs
 
 images-of-requires : tie.Need-images-of-requires
 images-of-requires c κs = search needs
@@ -50,10 +46,10 @@ module _ (c : tie.Start) where
   within = omega (arith, c .pre .1 .nodes-are)
 
   copied : stateAt bytes (k + 1) ≡ copy (symbolsOf bytes) (stateAt bytes k) (node (nodesOf bytes) k)
-  copied = next-copy bytes (c .pre .0) k within (c .pre .5)
+  copied = next-copy bytes (c .pre .0) k within (c .pre .7)
 
-  has-room : c .args .before .nodes + 1 ≤ 2632
-  has-room = omega (arith, c .pre .4 .nodes-are, copy-room bytes (c .pre .0) k within (c .pre .5))
+  has-room : c .args .count + 1 ≤ 2632
+  has-room = omega (arith, c .pre .6, copy-room bytes (c .pre .0) k within (c .pre .7))
 
 -- a node of an op on three operands
 abbrev onThree : ℕ → List ℕ → Node
@@ -61,42 +57,28 @@ onThree op xs = nodeOf op 0 (getD xs 0 0) (getD xs 1 0) (getD xs 2 0)
 
 lay-requires : tie.Need-lay-requires
 lay-requires c κs =
-    let room = has-room (c .before .before .before .before .before .before .before .before) in
+    let room = has-room (c .before .before .before .before .before .before .before) in
     let images = c .before .before .before .images-of .ensures in
     (omega arith, omega arith, omega (arith, images .1), omega (arith, images .2), omega (arith, images .3))
-
-add-imaged : tie.Need-add-imaged
-add-imaged c =
-    omega (arith, has-room (c .before .before .before .before .before .before .before .before .before .before .before))
-
-imaged-requires : tie.Need-imaged-requires
-imaged-requires c κs =
-    let st = c .before .before .before .before .before .before .before .before .before .before .before in
-    omega (arith, has-room st, st .pre .1 .few-nodes)
 
 same-length : tie.Need-same-length
 same-length c = search needs
 
 returns : tie.Need-returns
 returns c =
-    let read = c .before .before .before .before in
-    let st = read .before .before .before .before .before .before .before .before in
+    let read = c .before .before .before in
+    let st = read .before .before .before .before .before .before .before in
     let s = bytes st in
     let stands = node-stands (st .pre .1) (k st) _ (read .before .node-at .ensures) (st .pre .2) in
     let images = read .before .before .before .images-of in
-    let made = ap₂ onThree (ap (λ (n : Node). n .op) (sym stands)) (images .ensures .0) in (
-      subst (LaidAt s (k st + 1)) (sym (c .imaged .ensures))
-          (laid-copy s (k st) (st .args .before) (st .pre .4) (omega arith) (node (nodesOf s) (k st)) (copied st)),
-      step-lays s (k st) _ (sym (st .pre .4 .nodes-are))
-          (ap (snoc (stateAt s (k st) .out)) made ∙ sym (ap (λ (F : State). F .out) (copied st)))
-          (c .before .before .before .lay .ensures),
-    )
+    let made = ap₂ onThree (ap (λ (n : Node). n .op) (sym stands)) (images .ensures .0) in
+    step-lays s (k st) _ (sym (st .pre .6)) (ap (snoc (stateAt s (k st) .out)) made ∙ sym (ap (λ (F : State). F .out) (copied st)))
+    (c .before .before .lay .ensures)
 
 pub copy-node-spec : {M : Type 1} → statement M
 copy-node-spec =
     tie.close
     (tie.spec
-    slice-aggregate-images-of
     images-of-requires
     node-at-requires
     shared-slice-read-lay
@@ -104,7 +86,5 @@ copy-node-spec =
     array-read-lay-2
     array-read-lay-3
     lay-requires
-    add-imaged
-    imaged-requires
     same-length
     returns)

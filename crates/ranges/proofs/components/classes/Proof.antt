@@ -120,21 +120,24 @@ add-two-at-2 c = omega arith
 two-at-requires-2 : tie.Need-two-at-requires-2 Inv-loop μ-loop
 two-at-requires-2 c κs = omega arith
 
+slice-aggregate-merge : tie.Need-slice-aggregate-merge Inv-loop μ-loop
+slice-aggregate-merge c = search (needs, c .before .before .before .before .before .before .loop .inv .1 .0)
+
 mul-merge : tie.Need-mul-merge Inv-loop μ-loop
 mul-merge c = omega arith
 
 shared-slice-read-merge : tie.Need-shared-slice-read-merge Inv-loop μ-loop
-shared-slice-read-merge c = omega (arith, earlier (c .before .before .before .before) (c .before .before .before .if1 .taken))
+shared-slice-read-merge c = omega (arith, earlier (c .before .before .before .before .before) (c .before .before .before .before .if1 .taken))
 
 mul-merge-2 : tie.Need-mul-merge-2 Inv-loop μ-loop
 mul-merge-2 c = omega arith
 
 shared-slice-read-merge-2 : tie.Need-shared-slice-read-merge-2 Inv-loop μ-loop
 shared-slice-read-merge-2 c =
-    omega (arith, earlier (c .before .before .before .before .before) (c .before .before .before .before .if1 .taken))
+    omega (arith, earlier (c .before .before .before .before .before .before) (c .before .before .before .before .before .if1 .taken))
 
 merge-requires : tie.Need-merge-requires Inv-loop μ-loop
-merge-requires c κs = search needs
+merge-requires c κs = c .before .before .before .before .before .before .before .before .loop .inv .1 .0
 
 add-k : tie.Need-add-k Inv-loop μ-loop
 add-k c = omega arith
@@ -147,10 +150,10 @@ loop-again c = (
   omega arith,
   ⊎-elim
       (λ w.
-      subst (Next (c .before)) (sym (w .6)) (
-        search needs,
-        at-equation (c .before) (w .0 .taken) (w .1 .result) (w .2 .result) (w .1 .ensures .0) (w .2 .ensures .0) (w .5 .result)
-            (w .5 .ensures),
+      subst (Next (c .before)) (sym (w .8)) (
+        w .6 .kept .0 ∙ c .before .before .before .loop .inv .1 .0,
+        at-equation (c .before) (w .0 .taken) (w .1 .result) (w .2 .result) (w .1 .ensures .0) (w .2 .ensures .0) (w .6 .last .0)
+            (w .6 .ensures),
       ))
       (λ w. subst (Next (c .before)) (sym (w .1)) (c .before .before .before .loop .inv .1 .0, at-other (c .before) (w .0 .left)))
       (c .if1 .came),
@@ -181,6 +184,7 @@ classes-spec =
     two-at-requires
     add-two-at-2
     two-at-requires-2
+    slice-aggregate-merge
     mul-merge
     shared-slice-read-merge
     mul-merge-2

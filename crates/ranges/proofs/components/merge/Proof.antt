@@ -18,27 +18,28 @@ abbrev After : List ℕ → ℕ → ℕ → ℕ → Type 0
 After sets all v set = set ≡ cond (inSet all v) all (getD sets v 0)
 
 abbrev Inv-loop : tie.InvT-loop
-Inv-loop these all merged₀ v₀ merged v = (v ≤ 24) × Filled (After merged₀ all) (λ u. getD merged₀ u 0) 24 v merged
+Inv-loop sets₀ these all v₀ sets v = (v ≤ 24) × Filled (After sets₀ all) (λ u. getD sets₀ u 0) 24 v sets
 
 abbrev μ-loop : tie.MeasureT-loop
-μ-loop these all merged₀ v₀ merged v = 24 - v
+μ-loop sets₀ these all v₀ sets v = 24 - v
 
 union-requires : tie.Need-union-requires Inv-loop μ-loop
 union-requires c κs = search needs
 
 loop-holds : tie.Need-loop-holds Inv-loop μ-loop
 loop-holds c =
-    let sets = c .before .args .sets in
-    (omega arith, filled-none (After sets (c .union .result)) (λ u. getD sets u 0) 24 sets (search needs) (λ u. refl))
+    let s = c .before .before .before in
+    let sets = s .args .sets .now in
+    (omega arith, filled-none (After sets (c .union .result)) (λ u. getD sets u 0) 24 sets (s .pre) (λ u. refl))
 
 has-requires : tie.Need-has-requires Inv-loop μ-loop
 has-requires c κs = omega arith
 
-mul-merged : tie.Need-mul-merged Inv-loop μ-loop
-mul-merged c = omega arith
+mul-sets : tie.Need-mul-sets Inv-loop μ-loop
+mul-sets c = omega arith
 
-array-write-merged : tie.Need-array-write-merged Inv-loop μ-loop
-array-write-merged c = omega arith
+slice-write-sets : tie.Need-slice-write-sets Inv-loop μ-loop
+slice-write-sets c = let long = c .before .before .before .loop .inv .1 .long in omega arith
 
 add-v : tie.Need-add-v Inv-loop μ-loop
 add-v c = omega arith
@@ -49,7 +50,7 @@ loop-less c = omega arith
 loop-again : tie.Need-loop-again Inv-loop μ-loop
 loop-again c =
     let l = c .before .before .before .loop in
-    let sets = c .before .before .before .before .before .args .sets in
+    let sets = c .before .before .before .before .before .before .before .args .sets .now in
     let all = c .before .before .before .before .union .result in
     let done = After sets all in
     let start : ℕ → ℕ = λ u. getD sets u 0 in
@@ -59,12 +60,15 @@ loop-again c =
       ⊎-elim
           (λ w.
           subst (Filled done start 24 _) (sym (w .1))
-          (filled-set done start 24 (l .merged) (l .v) (omega arith) (l .inv .1) all (ap picks (sym (w .0 .taken) ∙ e))))
+          (filled-set done start 24 (l .sets) (l .v) (omega arith) (l .inv .1) all (ap picks (sym (w .0 .taken) ∙ e))))
           (λ w.
           subst (Filled done start 24 _) (sym (w .1))
-          (filled-kept done start 24 (l .merged) (l .v) (omega arith) (l .inv .1) (ap picks (sym (w .0 .left) ∙ e))))
+          (filled-kept done start 24 (l .sets) (l .v) (omega arith) (l .inv .1) (ap picks (sym (w .0 .left) ∙ e))))
           (c .if1 .came),
     )
+
+same-length : tie.Need-same-length Inv-loop μ-loop
+same-length c = c .before .loop .inv .1 .long ∙ sym (c .before .before .before .before .before .pre)
 
 returns : tie.Need-returns Inv-loop μ-loop
 returns c =
@@ -83,9 +87,10 @@ merge-spec =
     union-requires
     loop-holds
     has-requires
-    mul-merged
-    array-write-merged
+    mul-sets
+    slice-write-sets
     add-v
     loop-less
     loop-again
+    same-length
     returns)

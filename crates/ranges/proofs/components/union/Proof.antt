@@ -10,13 +10,13 @@ use Rattle.ranges.proofs.components.union.Statement.{statement}
 use Rattle.ranges.proofs.components.union.Tie as tie
 
 abbrev Inv-loop : tie.InvT-loop
-Inv-loop these sets all₀ v₀ all v = (v ≤ 24) × UnionIs sets these v all
+Inv-loop sets these all₀ v₀ all v = (v ≤ 24) × UnionIs sets these v all
 
 abbrev μ-loop : tie.MeasureT-loop
-μ-loop these sets all₀ v₀ all v = 24 - v
+μ-loop sets these all₀ v₀ all v = 24 - v
 
 loop-holds : tie.Need-loop-holds Inv-loop μ-loop
-loop-holds c = (omega arith, union-none (c .args .t1) (c .args .these))
+loop-holds c = (omega arith, union-none (c .before .args .sets .now) (c .before .args .these))
 
 has-requires : tie.Need-has-requires Inv-loop μ-loop
 has-requires c κs = omega arith
@@ -24,8 +24,8 @@ has-requires c κs = omega arith
 mul-all : tie.Need-mul-all Inv-loop μ-loop
 mul-all c = omega arith
 
-array-read-all : tie.Need-array-read-all Inv-loop μ-loop
-array-read-all c = omega arith
+shared-slice-read-all : tie.Need-shared-slice-read-all Inv-loop μ-loop
+shared-slice-read-all c = omega arith
 
 add-v : tie.Need-add-v Inv-loop μ-loop
 add-v c = omega arith
@@ -35,25 +35,25 @@ loop-less c = omega arith
 
 loop-again : tie.Need-loop-again Inv-loop μ-loop
 loop-again c =
-    let a = c .before .before .before .before .args in
+    let a = c .before .before .before .before .before .args in
     let l = c .before .before .before .loop in
     let e = sym (c .before .has .ensures) in (
       omega arith,
       ⊎-elim
           (λ w.
-          subst (UnionIs (a .t1) (a .these) _) (sym (w .1))
-          (union-more (a .t1) (a .these) (l .v) (l .all) (l .inv .1) (e ∙ w .0 .taken)))
+          subst (UnionIs (a .sets .now) (a .these) _) (sym (w .2))
+          (union-more (a .sets .now) (a .these) (l .v) (l .all) (l .inv .1) (e ∙ w .0 .taken)))
           (λ w.
-          subst (UnionIs (a .t1) (a .these) _) (sym (w .1))
-          (union-same (a .t1) (a .these) (l .v) (l .all) (l .inv .1) (e ∙ w .0 .left)))
+          subst (UnionIs (a .sets .now) (a .these) _) (sym (w .1))
+          (union-same (a .sets .now) (a .these) (l .v) (l .all) (l .inv .1) (e ∙ w .0 .left)))
           (c .if1 .came),
     )
 
 returns : tie.Need-returns Inv-loop μ-loop
 returns c =
-    let a = c .before .before .args in
+    let a = c .before .before .before .args in
     let e : c .before .loop .v ≡ 24 = omega arith in
-    subst (λ (n : ℕ). UnionIs (a .t1) (a .these) n (c .before .loop .all)) e (c .before .loop .inv .1)
+    subst (λ (n : ℕ). UnionIs (a .sets .now) (a .these) n (c .before .loop .all)) e (c .before .loop .inv .1)
 
 pub union-spec : {M : Type 1} → statement M
 union-spec =
@@ -64,7 +64,7 @@ union-spec =
     loop-holds
     has-requires
     mul-all
-    array-read-all
+    shared-slice-read-all
     add-v
     loop-less
     loop-again

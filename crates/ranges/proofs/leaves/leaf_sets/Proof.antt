@@ -5,7 +5,7 @@ use mathlib.Core.Path.{_≡_, refl, sym, ap, subst, _∙_}
 use mathlib.Core.List.{List}
 use mathlib.Core.Logic.{⊎-elim}
 use Prim.Native.Nat.{ℕ, _+_, _*_, _^_, _≤_, _<_, _-_}
-use lib.ListN.{getD, set}
+use lib.ListN.{length, getD, set}
 use lib.Bits.{bitOr}
 use Rattle.definitions.specs.Problem.Node.{Node, nodeAt}
 use Rattle.ranges.specs.Table.{TableIn, tableIn}
@@ -16,7 +16,7 @@ use Rattle.ranges.proofs.leaves.leaf_sets.Tie as tie
 
 abbrev Inv-loop : tie.InvT-loop
 Inv-loop table nodes variables truths sets₀ k₀ sets k =
-    (k ≤ nodes) × Filled (LeafSet (tableIn table nodes)) (λ i. getD sets₀ i 0) 2632 k sets
+    (k ≤ nodes) × Filled (LeafSet (tableIn table nodes)) (λ i. getD sets₀ i 0) (length sets₀) k sets
 
 abbrev μ-loop : tie.MeasureT-loop
 μ-loop table nodes variables truths sets₀ k₀ sets k = nodes - k
@@ -54,7 +54,7 @@ module _ (c : tie.After-shared-slice-known2 Inv-loop μ-loop) where
   t = tableIn s nodes
 
   abbrev Fills : List ℕ → Type 0
-  Fills = Filled (LeafSet t) (λ i. getD lent i 0) 2632 (k + 1)
+  Fills = Filled (LeafSet t) (λ i. getD lent i 0) (length lent) (k + 1)
 
   table : TableIn s nodes N P
   table = start .pre .0
@@ -69,7 +69,7 @@ module _ (c : tie.After-shared-slice-known2 Inv-loop μ-loop) where
   earlier q = let o = choice-in s nodes N P table k within q in (o .2 .0, o .2 .2 .0)
 
   fills : (x : ℕ) → LeafSet t k x → Fills (set sets k x)
-  fills x = filled-set (LeafSet t) (λ i. getD lent i 0) 2632 sets k (omega arith) (c .before .before .loop .inv .1) x
+  fills x = filled-set (LeafSet t) (λ i. getD lent i 0) (length lent) sets k (omega arith) (c .before .before .loop .inv .1) x
 
   at-variable : n .op ≡ 0 → (x : ℕ) → x ≡ 2 ^ n .sym → Fills (set sets k x)
   at-variable q x e = fills x (subst (LeafSet t k) (sym e) (variable-set s nodes N P table k within q))
@@ -92,7 +92,7 @@ loop-holds c =
     let a = s .args in
     let lent = a .sets .now in (
       omega arith,
-      filled-none (LeafSet (tableIn (a .table .now) (a .nodes))) (λ i. getD lent i 0) 2632 lent (s .pre .1) (λ i. refl),
+      filled-none (LeafSet (tableIn (a .table .now) (a .nodes))) (λ i. getD lent i 0) (length lent) lent refl (λ i. refl),
     )
 
 mul-at : tie.Need-mul-at Inv-loop μ-loop
@@ -179,7 +179,7 @@ loop-again c = (
 )
 
 same-length : tie.Need-same-length Inv-loop μ-loop
-same-length c = c .before .loop .inv .1 .long ∙ sym (c .before .before .before .before .pre .1)
+same-length c = c .before .loop .inv .1 .long
 
 returns : tie.Need-returns Inv-loop μ-loop
 returns c = λ i v h. c .before .loop .inv .1 .done i (omega arith) v

@@ -1,168 +1,105 @@
--- `evaluate` solves the nodes in order: the loop keeps that the first k are what their branches take. A branch reads only what
--- stands before its node, so laying a node leaves the reads of the nodes up to it as they were. Assumes nothing.
-use borrow.Author.Needs.{needs}
+-- `evaluate` solves a tail position by position. Assumes nothing.
 use native.Mathlib.Omega.{arith}
 use mathlib.Core.Path.{_≡_, refl, _∙_, subst}
 use Prim.Native.Nat.{_+_, _*_, _-_, _≤_}
 use lib.ListN.{length}
-use Rattle.walk.specs.Cells.{Solved}
-use Rattle.walk.proofs.Laying.{room, picked-equal, solves-more}
+use Rattle.walk.specs.Cells.{SolvedFrom}
+use Rattle.walk.proofs.Solving.{solves-none, place-small, place-fits, place-next, reads-before, tail-more}
 use Rattle.walk.proofs.lanes.evaluate.Statement.{statement}
 use Rattle.walk.proofs.lanes.evaluate.Tie as tie
 
 abbrev Inv-loop : tie.InvT-loop
-Inv-loop branches nodes cells₀ k₀ cells k = (k ≤ nodes) × (length cells ≡ length cells₀) × Solved branches cells₀ cells k
+Inv-loop branches from nodes chunks cells₀ wide at₀ m₀ cells at m =
+    (from ≤ m) × (m ≤ nodes) × (wide ≡ 16 * chunks) × (at ≡ 16 * chunks * (42 + m)) × (length cells ≡ length cells₀) × SolvedFrom (16 * chunks) branches from m cells₀ cells
 
 abbrev μ-loop : tie.MeasureT-loop
-μ-loop branches nodes cells₀ k₀ cells k = nodes - k
+μ-loop branches from nodes chunks cells₀ wide at₀ m₀ cells at m = nodes - m
+
+mul-wide : tie.Need-mul-wide Inv-loop μ-loop
+mul-wide c = let p = c .before .before .pre in omega arith
+
+add-at : tie.Need-add-at Inv-loop μ-loop
+add-at c = let p = c .before .before .pre in omega arith
+
+mul-at : tie.Need-mul-at Inv-loop μ-loop
+mul-at c =
+    let s = c .before .before in
+    let p = s .pre in
+    let u = place-small (16 * s .args .chunks) (s .args .from) (s .args .nodes) (omega arith) (omega arith) (omega arith) in
+    omega arith
 
 loop-holds : tie.Need-loop-holds Inv-loop μ-loop
-loop-holds c = (omega arith, refl, record { solves = λ j l h. absurd (omega arith); kept = λ i h. refl })
+loop-holds c =
+    let s = c .before .before in
+    let p = s .pre in
+    (omega arith, omega arith, refl, refl, refl, solves-none (16 * s .args .chunks) (s .args .branches .now) (s .args .from) (s .args .cells .now))
 
-mul-number : tie.Need-mul-number Inv-loop μ-loop
-mul-number c = omega arith
+stored-requires : tie.Need-stored-requires Inv-loop μ-loop
+stored-requires c κs = let p = c .before .before .before .before .before .pre in (omega arith, omega arith)
 
-mul-number-2 : tie.Need-mul-number-2 Inv-loop μ-loop
-mul-number-2 c = omega arith
-
-shared-slice-read-number : tie.Need-shared-slice-read-number Inv-loop μ-loop
-shared-slice-read-number c = omega arith
-
-number-requires : tie.Need-number-requires Inv-loop μ-loop
-number-requires c κs = search needs
-
-mul-number-3 : tie.Need-mul-number-3 Inv-loop μ-loop
-mul-number-3 c = omega arith
-
-add-number : tie.Need-add-number Inv-loop μ-loop
-add-number c = omega arith
-
-mul-number-4 : tie.Need-mul-number-4 Inv-loop μ-loop
-mul-number-4 c = omega arith
-
-shared-slice-read-number-2 : tie.Need-shared-slice-read-number-2 Inv-loop μ-loop
-shared-slice-read-number-2 c = omega arith
-
-number-requires-2 : tie.Need-number-requires-2 Inv-loop μ-loop
-number-requires-2 c κs = search needs
-
-mul-number-5 : tie.Need-mul-number-5 Inv-loop μ-loop
-mul-number-5 c = omega arith
-
-add-number-2 : tie.Need-add-number-2 Inv-loop μ-loop
-add-number-2 c = omega arith
-
-mul-number-6 : tie.Need-mul-number-6 Inv-loop μ-loop
-mul-number-6 c = omega arith
-
-shared-slice-read-number-3 : tie.Need-shared-slice-read-number-3 Inv-loop μ-loop
-shared-slice-read-number-3 c = omega arith
-
-number-requires-3 : tie.Need-number-requires-3 Inv-loop μ-loop
-number-requires-3 c κs = search needs
-
-mul-number-7 : tie.Need-mul-number-7 Inv-loop μ-loop
-mul-number-7 c = omega arith
-
-add-number-3 : tie.Need-add-number-3 Inv-loop μ-loop
-add-number-3 c = omega arith
-
-mul-number-8 : tie.Need-mul-number-8 Inv-loop μ-loop
-mul-number-8 c = omega arith
-
-shared-slice-read-number-4 : tie.Need-shared-slice-read-number-4 Inv-loop μ-loop
-shared-slice-read-number-4 c = omega arith
-
-number-requires-4 : tie.Need-number-requires-4 Inv-loop μ-loop
-number-requires-4 c κs = search needs
-
-pick-requires : tie.Need-pick-requires Inv-loop μ-loop
-pick-requires c κs =
-    let s = c .before .before .before .before .before .before .before .before .before .before .before .before .before in
-    let l = c .before .before .before .before .before .before .before .before .before .before .loop in
-    let fits = s .pre .1 in
-    let same = l .inv .1 in
-    let long : 16 * (42 + s .args .nodes) ≤ length (l .cells) = omega arith in
-    let r = s .pre .2 (l .k) (omega arith) in (
-      room (l .k) _ _ (s .args .nodes) (l .cells) (omega arith) long (r .left) (c .before .before .before .before .before .before .number .ensures),
-      room (l .k) _ _ (s .args .nodes) (l .cells) (omega arith) long (r .right) (c .before .before .before .before .number2 .ensures),
-      room (l .k) _ _ (s .args .nodes) (l .cells) (omega arith) long (r .same) (c .before .before .number3 .ensures),
-      room (l .k) _ _ (s .args .nodes) (l .cells) (omega arith) long (r .apart) (c .number4 .ensures),
+solve-requires : tie.Need-solve-requires Inv-loop μ-loop
+solve-requires c κs =
+    let s = c .before .before .before .before .before .before in
+    let l = c .before .before .before .loop in
+    let p = s .pre in
+    let S = 16 * s .args .chunks in
+    let e = l .inv .3 in
+    let long = l .inv .4 in
+    let b = c .stored .ensures in
+    let r = s .pre .5 (l .m) (c .before .before .loop-test .taken) in (
+      omega arith,
+      place-fits S (l .m) (s .args .nodes) (length (l .cells)) (l .at) e (omega arith) (omega arith),
+      reads-before S (l .m) (l .at) _ _ e (b .left-is) (r .left),
+      reads-before S (l .m) (l .at) _ _ e (b .right-is) (r .right),
+      reads-before S (l .m) (l .at) _ _ e (b .same-is) (r .same),
+      reads-before S (l .m) (l .at) _ _ e (b .apart-is) (r .apart),
     )
 
-add-put-lanes : tie.Need-add-put-lanes Inv-loop μ-loop
-add-put-lanes c = omega arith
+add-at-2 : tie.Need-add-at-2 Inv-loop μ-loop
+add-at-2 c =
+    let s = c .before .before .before .before .before .before .before .before .before in
+    let l = c .before .before .before .before .before .before .loop in
+    let p = s .pre in
+    let e = l .inv .3 in
+    let w = l .inv .2 in
+    let u = place-small (16 * s .args .chunks) (l .m) (s .args .nodes) (omega arith) (omega arith) (omega arith) in
+    omega arith
 
-mul-put-lanes : tie.Need-mul-put-lanes Inv-loop μ-loop
-mul-put-lanes c = omega arith
-
-put-lanes-requires : tie.Need-put-lanes-requires Inv-loop μ-loop
-put-lanes-requires c κs =
-    let s = c .before .before .before .before .before .before .before .before .before .before .before .before .before .before .before in
-    let l = c .before .before .before .before .before .before .before .before .before .before .before .before .loop in
-    let fits = s .pre .1 in
-    let long = l .inv .1 in
-    let room : 16 * (42 + l .k) + 16 ≤ length (l .cells) = omega arith in
-    room
-
-add-k : tie.Need-add-k Inv-loop μ-loop
-add-k c = omega arith
+add-m : tie.Need-add-m Inv-loop μ-loop
+add-m c = let p = c .before .before .before .before .before .before .before .before .before .pre in omega arith
 
 loop-less : tie.Need-loop-less Inv-loop μ-loop
 loop-less c = omega arith
 
 loop-again : tie.Need-loop-again Inv-loop μ-loop
 loop-again c =
-    let s = c .before .before .before .before .before .before .before .before .before .before .before .before .before .before .before .before .before .before in
-    let l = c .before .before .before .before .before .before .before .before .before .before .before .before .before .before .before .loop in
-    let fits = s .pre .1 in
-    let picked = picked-equal (l .cells) (c .before .before .before .before .pick .result) _ _ _ _ _ _ _ _ (c .before .before .before .before .before .before .before .before .before .before .before .number .ensures) (c .before .before .before .before .before .before .before .before .before .number2 .ensures) (c .before .before .before .before .before .before .before .number3 .ensures) (c .before .before .before .before .before .number4 .ensures) (c .before .before .before .before .pick .ensures) in (
+    let s = c .before .before .before .before .before .before .before .before .before in
+    let l = c .before .before .before .before .before .before .loop in
+    let p = s .pre in
+    let S = 16 * s .args .chunks in
+    let e = l .inv .3 in
+    let w = l .inv .2 in (
       omega arith,
-      c .before .before .put-lanes .kept .0 ∙ l .inv .1,
-      solves-more (s .args .branches .now) (l .cells) (c .before .before .before .before .pick .result) (c .before .before .put-lanes .last .0) (l .k) (c .before .before .put-lanes .ensures) (s .args .cells .now) (λ j h. s .pre .2 j (omega arith)) picked (l .inv .2),
+      omega arith,
+      w,
+      (let q = place-next S (l .m) (l .at) e in omega arith),
+      c .before .before .solve .kept .0 ∙ l .inv .4,
+      tail-more S (s .args .branches .now) (l .cells) (c .before .before .solve .last .0) (l .m) (l .at) (c .before .before .before .stored .result) e (c .before .before .before .stored .ensures) (c .before .before .solve .ensures) (s .args .from)
+          (s .args .cells .now) (l .inv .0) (λ j h. s .pre .5 j (omega arith)) (l .inv .5),
     )
 
 same-length : tie.Need-same-length Inv-loop μ-loop
-same-length c = c .before .loop .inv .1
+same-length c = c .before .loop .inv .4
 
 returns : tie.Need-returns Inv-loop μ-loop
 returns c =
     let s = c .before .before .before .before in
     let l = c .before .loop in
-    subst (λ m. Solved (s .args .branches .now) (s .args .cells .now) (l .cells) m) (let e : l .k ≡ s .args .nodes = omega arith in e) (l .inv .2)
+    let a = l .inv .1 in
+    subst (λ m. SolvedFrom (16 * s .args .chunks) (s .args .branches .now) (s .args .from) m (s .args .cells .now) (l .cells))
+    (let e : l .m ≡ s .args .nodes = omega arith in e) (l .inv .5)
 
 pub evaluate-spec : {M : Type 1} → statement M
 evaluate-spec =
     tie.close
-    (tie.spec
-    Inv-loop
-    μ-loop
-    loop-holds
-    mul-number
-    mul-number-2
-    shared-slice-read-number
-    number-requires
-    mul-number-3
-    add-number
-    mul-number-4
-    shared-slice-read-number-2
-    number-requires-2
-    mul-number-5
-    add-number-2
-    mul-number-6
-    shared-slice-read-number-3
-    number-requires-3
-    mul-number-7
-    add-number-3
-    mul-number-8
-    shared-slice-read-number-4
-    number-requires-4
-    pick-requires
-    add-put-lanes
-    mul-put-lanes
-    put-lanes-requires
-    add-k
-    loop-less
-    loop-again
-    same-length
-    returns)
+    (tie.spec Inv-loop μ-loop mul-wide add-at mul-at loop-holds stored-requires solve-requires add-at-2 add-m loop-less loop-again same-length returns)
