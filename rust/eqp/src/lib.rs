@@ -25,7 +25,8 @@
 //!
 //! - `cargo test --profile checked` runs the worked rows, the comparison, the night run and, where
 //!   z3 or cvc5 is on the PATH, the solvers;
-//! - `cargo run --release --bin bench` times both implementations;
+//! - `cargo run --release --bin bench` times both implementations, a walk of sixteen lanes beside
+//!   them and, where z3 or cvc5 is on the PATH, the solvers;
 //! - `cargo run --release --bin make_examples` writes the files of `examples/` anew;
 //! - `cargo run --release --bin pack OUT.jobs FILE.smt2 ..` makes a job file of solver texts.
 

@@ -6,6 +6,9 @@ pub mod texts;
 use crate::problem::{Formula, Problem, Term};
 use crate::samples::{ackermann, inlined_tap, row, variables};
 
+/// How many variables a table has that is walked at several sizes.
+const SIZED: usize = 10;
+
 /// A problem to walk.
 pub struct Workload {
     /// What it is.
@@ -36,6 +39,15 @@ pub fn tables() -> Vec<Workload> {
     ]
 }
 
+/// One table at five sizes: always 32 nodes, and 6! to 10! places.
+pub fn sizes() -> [Workload; 5] {
+    [6, 7, 8, 9, SIZED].map(|count| Workload {
+        name: "chain to and fro",
+        problem: to_and_fro(count).bytes(),
+        budget: u64::MAX,
+    })
+}
+
 /// Small jobs of several kinds, in turn, each with an ample budget.
 pub fn small_jobs(count: usize) -> Vec<Vec<u8>> {
     let rows = (1..=12).map(row);
@@ -45,13 +57,30 @@ pub fn small_jobs(count: usize) -> Vec<Vec<u8>> {
 }
 
 /// If x1 = x2, x2 = x3 and so on, then the first is the last.
-fn chain(count: usize) -> Problem {
+pub fn chain(count: usize) -> Problem {
     let mut p = Problem::new();
     let x = variables(&mut p, "x", count);
-    let links = all_equal(&mut p, &x);
-    let ends = p.equal(x[0], x[count - 1]);
-    implies(&mut p, links, ends);
+    linked(&mut p, &x);
     p
+}
+
+/// A chain of 9 links among 10 variables that goes to and fro between the first and this one:
+/// the others are in no equation and take one value.
+fn to_and_fro(count: usize) -> Problem {
+    let mut p = Problem::new();
+    let x = variables(&mut p, "x", SIZED);
+    let fro = (1..count - 1).rev();
+    let steps = (0..count).chain(fro).cycle().take(SIZED);
+    let steps: Vec<_> = steps.map(|i| x[i]).collect();
+    linked(&mut p, &steps);
+    p
+}
+
+/// If each term is the next, then the first is the last.
+fn linked(p: &mut Problem, terms: &[Term]) {
+    let links = all_equal(p, terms);
+    let ends = p.equal(terms[0], terms[terms.len() - 1]);
+    implies(p, links, ends);
 }
 
 /// If f applied a times and f applied b times give x back, then so does f, for coprime a < b.

@@ -1,12 +1,12 @@
 //! Texts read per second, and the time of texts of 64 KB.
 
-use std::io;
 use std::time::{Duration, Instant};
 
 use eqp::workloads::texts::{self, Text};
 use eqp::{host, reference, Reading, PROBLEM_LEN};
 
-use crate::timing::{medians, repeats, run_z3, without_z3};
+use crate::solver::Z3;
+use crate::timing::{medians, repeats};
 
 /// How many small texts there are.
 const TEXTS: usize = 100_000;
@@ -62,8 +62,8 @@ fn bench_small(library: &mut Side, reference: &mut Side) {
     println!("  library   {:>10.0}", TEXTS as f64 / ours);
     println!("  reference {:>10.0}", TEXTS as f64 / theirs);
     match parse(&slices[..FOR_Z3]) {
-        Ok(time) => println!("  z3's parse {:>9.0}", FOR_Z3 as f64 / time),
-        Err(error) => println!("  {}", without_z3(&error)),
+        Some(time) => println!("  z3's parse {:>9.0}", FOR_Z3 as f64 / time),
+        None => println!("  {}", Z3.absent()),
     }
 }
 
@@ -83,23 +83,19 @@ fn bench_long(library: &mut Side, reference: &mut Side, text: &Text) {
         per_text(ours),
         per_text(theirs),
         theirs / ours,
-        z3.map_or_else(|_| "-".to_string(), |time| format!("{time:.0}")),
+        z3.map_or_else(|| "-".to_string(), |time| format!("{time:.0}")),
     );
 }
 
 /// The seconds that one z3 process takes to read texts without their check-sat; the start of the
-/// process counts.
-fn parse(texts: &[&[u8]]) -> io::Result<f64> {
+/// process counts. A text that z3 finds fault with ends the bench.
+fn parse(texts: &[&[u8]]) -> Option<f64> {
     let mut script = Vec::new();
     for text in texts {
         script.extend_from_slice(&text[..text.len() - "(check-sat)".len()]);
         script.extend_from_slice(b"\n(reset)\n");
     }
-    let start = Instant::now();
-    let printed = run_z3(script)?;
-    let time = start.elapsed().as_secs_f64();
-    match printed.lines().next() {
-        None => Ok(time),
-        Some(line) => Err(io::Error::new(io::ErrorKind::InvalidData, line)),
-    }
+    let (printed, time) = Z3.run(script)?;
+    assert_eq!(printed, "", "z3 disagrees: it does not read a text");
+    Some(time)
 }

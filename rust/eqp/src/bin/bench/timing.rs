@@ -1,8 +1,6 @@
-//! How the bench takes times, and how it asks z3.
+//! How the bench takes times.
 
-use std::io::{self, Write};
-use std::process::{Command, Stdio};
-use std::thread;
+use std::fmt;
 use std::time::Duration;
 
 /// How often each side is timed; the median counts.
@@ -15,39 +13,84 @@ pub fn repeats(once: Duration) -> u64 {
     1 + (TIMING.as_nanos() / once.as_nanos().max(1)) as u64
 }
 
-/// The medians, in seconds, of timings taken in turn.
-pub fn medians<const N: usize>(mut sides: [&mut dyn FnMut() -> Duration; N]) -> [f64; N] {
-    let mut times: [Vec<Duration>; N] = std::array::from_fn(|_| Vec::new());
+/// The seconds of each side, round after round: the sides are timed in turn.
+pub fn rounds<const N: usize>(mut sides: [&mut dyn FnMut() -> Duration; N]) -> [Vec<f64>; N] {
+    let mut times: [Vec<f64>; N] = std::array::from_fn(|_| Vec::new());
     for _ in 0..ROUNDS {
         for (times, side) in times.iter_mut().zip(&mut sides) {
-            times.push(side());
+            times.push(side().as_secs_f64());
         }
     }
-    times.map(|mut times| {
-        times.sort();
-        times[times.len() / 2].as_secs_f64()
-    })
+    times
 }
 
-/// What z3 prints for a script.
-pub fn run_z3(script: Vec<u8>) -> io::Result<String> {
-    let mut z3 = Command::new("z3")
-        .arg("-in")
-        .stdin(Stdio::piped())
-        .stdout(Stdio::piped())
-        .spawn()?;
-    let mut input = z3.stdin.take().expect("z3's input is a pipe");
-    let writer = thread::spawn(move || input.write_all(&script));
-    let output = z3.wait_with_output()?;
-    writer.join().expect("the writer does not panic")?;
-    let invalid = |error| io::Error::new(io::ErrorKind::InvalidData, error);
-    String::from_utf8(output.stdout).map_err(invalid)
+/// The medians, in seconds, of timings taken in turn.
+pub fn medians<const N: usize>(sides: [&mut dyn FnMut() -> Duration; N]) -> [f64; N] {
+    rounds(sides).map(|times| median(&times))
 }
 
-/// Why there are no figures of z3.
-pub fn without_z3(error: &io::Error) -> String {
-    match error.kind() {
-        io::ErrorKind::NotFound => "z3 is not on the PATH".to_string(),
-        _ => format!("z3 did not run: {error}"),
+/// The median of some values.
+pub fn median(values: &[f64]) -> f64 {
+    Spread::of(values.to_vec()).median
+}
+
+/// The geometric mean of some values.
+pub fn geometric_mean(values: &[f64]) -> f64 {
+    let sum: f64 = values.iter().map(|value| value.ln()).sum();
+    (sum / values.len() as f64).exp()
+}
+
+/// The median of some values, and the least and the greatest of them.
+pub struct Spread {
+    least: f64,
+    pub median: f64,
+    greatest: f64,
+}
+
+impl Spread {
+    /// # Panics
+    ///
+    /// Where there are no values.
+    pub fn of(mut values: Vec<f64>) -> Self {
+        values.sort_by(f64::total_cmp);
+        Self {
+            least: values[0],
+            median: values[values.len() / 2],
+            greatest: values[values.len() - 1],
+        }
+    }
+
+    /// How much longer one side took than another, each round by itself.
+    pub fn of_ratios(longer: &[f64], shorter: &[f64]) -> Self {
+        let rounds = longer.iter().zip(shorter);
+        Self::of(rounds.map(|(longer, shorter)| longer / shorter).collect())
+    }
+}
+
+impl fmt::Display for Spread {
+    fn fmt(&self, f: &mut fmt::Formatter) -> fmt::Result {
+        let Self {
+            least,
+            median,
+            greatest,
+        } = self;
+        f.pad(&format!("{median:.2} ({least:.2} to {greatest:.2})"))
+    }
+}
+
+#[cfg(test)]
+mod tests {
+    use super::*;
+
+    #[test]
+    fn spreads() {
+        let spread = Spread::of_ratios(&[6.0, 2.0, 9.0], &[2.0, 2.0, 2.0]);
+        assert_eq!(spread.to_string(), "3.00 (1.00 to 4.50)");
+        assert_eq!(median(&[2.0, 8.0, 1.0]), 2.0);
+    }
+
+    #[test]
+    fn means() {
+        assert!((geometric_mean(&[2.0, 8.0]) - 4.0).abs() < 1e-9);
     }
 }
