@@ -1,7 +1,7 @@
 -- What the walk keeps from block to block: the odometer of the slow digits stands at a block, all places before it are true, the
 -- digits' cells are laid for it, and the nodes before the tail are fresh already. Assumes nothing.
 use mathlib.Core.Path.{_≡_}
-use Prim.Native.Nat.{ℕ, _+_, _*_, _≤_, _<_}
+use Prim.Native.Nat.{ℕ, _+_, _*_, _≤_, _<_, min}
 use mathlib.Core.List.{List}
 use lib.ListN.{take}
 use Rattle.definitions.specs.Lists.{productOf}
@@ -14,11 +14,24 @@ use Rattle.walk.specs.Cells.{Decoded, Constant, DigitsHeld}
 use Rattle.walk.specs.Digits.{Turning, PartsAre, digitsOf, sizesIn, fastOf, slowOf}
 use Rattle.walk.specs.Kept.{FreshBefore}
 use Rattle.walk.specs.Reading.{positionsIn}
-use Rattle.walk.specs.Walked.{rootTrue, RootIn, Starts}
+use Rattle.walk.specs.Walked.{rootTrue, RootIn, Starts, WalkIs}
 use Rattle.walk.specs.declared.Begun.{Begun}
 use Rattle.walk.specs.declared.Plan.{Plan}
+use Rattle.walk.specs.declared.Walked.{Walked}
 use Rattle.walk.specs.declared.odometer.Odometer.{Odometer}
 use Rattle.walk.specs.declared.split.Parts.{Parts}
+
+-- a table, its root, and an odometer at place 1 whose digits are split
+pub record Planned (table : List ℕ) (plan : Plan) (o : Odometer) : Type 0 where
+  pub table-in : TableIn table (plan .shape .nodes) (plan .shape .variables) (plan .shape .truths)
+  pub root-in : RootIn table (plan .shape .nodes) (plan .root)
+  pub begins : Starts (plan .shape .variables) (plan .shape .truths) o
+  pub parts-are : PartsAre o (plan .shape .nodes) (plan .parts)
+
+-- the walk of such a table: as many places as the budget allows
+abbrev pub PlanWalked : List ℕ → Plan → Odometer → ℕ → List ℕ → Walked → Type 0
+PlanWalked table plan o budget vals r =
+    WalkIs table (plan .shape .nodes) (plan .shape .variables) (plan .shape .truths) (plan .root) o (min budget (productOf (sizesIn o))) vals r
 
 -- what holds all the while
 pub record Setting (table : List ℕ) (s : Shape) (root : ℕ) (o : Odometer) (p : Parts) (positions starts bs : List ℕ) : Type 0 where

@@ -7,8 +7,8 @@ ghost use Prim.Native.Nat.{_+_, _*_, _≤_, min};
 ghost use lib.ListN.{length};
 ghost use Rattle.definitions.specs.Lists.{productOf};
 ghost use Rattle.ranges.specs.Table.{TableIn};
-ghost use Rattle.walk.specs.Digits.{sizesIn, PartsAre};
-ghost use Rattle.walk.specs.Keeping.{Begins};
+ghost use Rattle.walk.specs.Digits.{sizesIn};
+ghost use Rattle.walk.specs.Keeping.{Planned, PlanWalked, Begins};
 ghost use Rattle.walk.specs.Walked.{RootIn, Starts, WalkIs};
 use crate::branches::decode;
 use crate::cells::lay_lanes;
@@ -83,8 +83,8 @@ pub fn walk(
 
 // At most 86 nodes, in as many lanes as may be.
 fn walk_middle(table: &[u8], plan: Plan, start: Odometer, budget: u64, values: &mut [u8]) -> Walked
-    requires { ⌜ TableIn (now table) (plan .shape .nodes) (plan .shape .variables) (plan .shape .truths) × RootIn (now table) (plan .shape .nodes) (plan .root) × Starts (plan .shape .variables) (plan .shape .truths) start × PartsAre start (plan .shape .nodes) (plan .parts) × (plan .shape .nodes ≤ 86) × (plan .shape .nodes ≤ length (now values)) ⌝ }
-    ensures { λ r. ⌜ WalkIs (now (table .entry)) (plan .shape .nodes) (plan .shape .variables) (plan .shape .truths) (plan .root) start (min budget (productOf (sizesIn start))) (now (values .exit)) r ⌝ }
+    requires { ⌜ Planned (now table) plan start × (plan .shape .nodes ≤ 86) × (plan .shape .nodes ≤ length (now values)) ⌝ }
+    ensures { λ r. ⌜ PlanWalked (now (table .entry)) plan start budget (now (values .exit)) r ⌝ }
 {
     let mut positions = [0u16; 86];
     let mut branches = [0u16; 344];
@@ -103,8 +103,8 @@ fn walk_middle(table: &[u8], plan: Plan, start: Odometer, budget: u64, values: &
 
 // Any table.
 fn walk_large(table: &[u8], plan: Plan, start: Odometer, budget: u64, values: &mut [u8]) -> Walked
-    requires { ⌜ TableIn (now table) (plan .shape .nodes) (plan .shape .variables) (plan .shape .truths) × RootIn (now table) (plan .shape .nodes) (plan .root) × Starts (plan .shape .variables) (plan .shape .truths) start × PartsAre start (plan .shape .nodes) (plan .parts) × (plan .shape .nodes ≤ length (now values)) ⌝ }
-    ensures { λ r. ⌜ WalkIs (now (table .entry)) (plan .shape .nodes) (plan .shape .variables) (plan .shape .truths) (plan .root) start (min budget (productOf (sizesIn start))) (now (values .exit)) r ⌝ }
+    requires { ⌜ Planned (now table) plan start × (plan .shape .nodes ≤ length (now values)) ⌝ }
+    ensures { λ r. ⌜ PlanWalked (now (table .entry)) plan start budget (now (values .exit)) r ⌝ }
 {
     let mut positions = [0u16; 2632];
     let mut branches = [0u16; 10528];
@@ -138,7 +138,7 @@ fn begin(
     branches: &mut [u16],
     cells: &mut [u8],
 ) -> Begun
-    requires { ⌜ TableIn (now table) (plan .shape .nodes) (plan .shape .variables) (plan .shape .truths) × RootIn (now table) (plan .shape .nodes) (plan .root) × Starts (plan .shape .variables) (plan .shape .truths) start × PartsAre start (plan .shape .nodes) (plan .parts) × (plan .shape .nodes ≤ length (now positions)) × (4 * plan .shape .nodes ≤ length (now branches)) × (16 * plan .parts .chunks * (42 + plan .shape .nodes) ≤ length (now cells)) ⌝ }
+    requires { ⌜ Planned (now table) plan start × (plan .shape .nodes ≤ length (now positions)) × (4 * plan .shape .nodes ≤ length (now branches)) × (16 * plan .parts .chunks * (42 + plan .shape .nodes) ≤ length (now cells)) ⌝ }
     ensures { λ r. ⌜ Begins (now (table .entry)) plan start (now (positions .exit)) (now (branches .exit)) (now (cells .exit)) r ⌝ }
 {
     let shape = plan.shape;
@@ -164,8 +164,8 @@ fn walk_in(
     cells: &mut [u8],
     values: &mut [u8],
 ) -> Walked
-    requires { ⌜ TableIn (now table) (plan .shape .nodes) (plan .shape .variables) (plan .shape .truths) × RootIn (now table) (plan .shape .nodes) (plan .root) × Starts (plan .shape .variables) (plan .shape .truths) start × PartsAre start (plan .shape .nodes) (plan .parts) × (plan .shape .nodes ≤ length (now positions)) × (4 * plan .shape .nodes ≤ length (now branches)) × (16 * plan .parts .chunks * (42 + plan .shape .nodes) ≤ length (now cells)) × (plan .shape .nodes ≤ length (now values)) ⌝ }
-    ensures { λ r. ⌜ WalkIs (now (table .entry)) (plan .shape .nodes) (plan .shape .variables) (plan .shape .truths) (plan .root) start (min budget (productOf (sizesIn start))) (now (values .exit)) r ⌝ }
+    requires { ⌜ Planned (now table) plan start × (plan .shape .nodes ≤ length (now positions)) × (4 * plan .shape .nodes ≤ length (now branches)) × (16 * plan .parts .chunks * (42 + plan .shape .nodes) ≤ length (now cells)) × (plan .shape .nodes ≤ length (now values)) ⌝ }
+    ensures { λ r. ⌜ PlanWalked (now (table .entry)) plan start budget (now (values .exit)) r ⌝ }
 {
     let shape = plan.shape;
     let parts = plan.parts;

@@ -38,7 +38,7 @@ walk-in-requires c κs =
     let small = c .before .before .before .before .before .if1 .taken in
     let room = c .before .before .before .before .if2 .taken in
     let parts = c .before .before .before .before .before .before .before .before .before .split .ensures in
-    (p .0, p .1, p .2, parts, omega arith, omega arith, omega arith, p .3)
+    (record { table-in = p .0; root-in = p .1; begins = p .2; parts-are = parts }, omega arith, omega arith, omega arith, p .3)
 
 same-length : tie.Need-same-length
 same-length c = search needs

@@ -25,7 +25,7 @@ abbrev μ-loop : tie.MeasureT-loop
 μ-loop table budget positions branches cells₀ values₀ shape parts begun starts odometer₀ tried₀ from₀ cells values odometer tried from = budget - tried
 
 begin-requires : tie.Need-begin-requires Inv-loop μ-loop
-begin-requires c κs = let p = c .before .before .before .before .before .before .before .before .before .before .pre in (p .0, p .1, p .2, p .3, p .4, p .5, p .6)
+begin-requires c κs = let p = c .before .before .before .before .before .before .before .before .before .before .pre in (p .0, p .1, p .2, p .3)
 
 loop-holds : tie.Need-loop-holds Inv-loop μ-loop
 loop-holds c = (λ root o b. (0, b .walking _), refl, refl)
@@ -42,8 +42,8 @@ evaluate-requires c κs =
     let cl = b .kept .1 .1 .1 .1 .1 .0 in
     let k = l .inv .1 in
     let few = w .from-few in
-    let n = p .0 .few-nodes in
-    (omega arith, few, n, p .3 .parted .chunks-few, omega arith, ready-all _ _ _ _ _ _ _ _ (e .setting))
+    let n = p .0 .table-in .few-nodes in
+    (omega arith, few, n, p .0 .parts-are .parted .chunks-few, omega arith, ready-all _ _ _ _ _ _ _ _ (e .setting))
 
 sub-lanes-in : tie.Need-sub-lanes-in Inv-loop μ-loop
 sub-lanes-in c = omega (arith, c .before .before .before .before .before .loop-test .taken)
@@ -62,12 +62,12 @@ first-false-requires c κs =
     let d = c .before .before .before .before .evaluate .kept .1 .1 .1 .1 .0 in
     let cl = b .kept .1 .1 .1 .1 .1 .0 in
     let k = l .inv .1 in
-    let a = p .3 .parted in
+    let a = p .0 .parts-are .parted in
     let f = a .lanes-fit in
     let g = a .chunks-few in
     let m = lanes-few _ _ _ (c .before .lanes-in .ensures) .0 in
     let z = lanes-fit (16 * s .args .plan .parts .chunks) _ (s .args .plan .shape .nodes) (length (s .args .cells .now)) (b .result .root) (c .before .lanes-in .result) (s .args .plan .parts .lanes) (e .root-is)
-    (inside _ _ _ _ _ _ _ _ (e .setting) (s .args .plan .root) (p .1 .below)) (p .6) m f in
+    (inside _ _ _ _ _ _ _ _ (e .setting) (s .args .plan .root) (p .0 .root-in .below)) (p .3) m f in
     (omega arith, omega arith)
 
 values-of-requires : tie.Need-values-of-requires Inv-loop μ-loop
@@ -83,11 +83,11 @@ values-of-requires c κs =
     let cl = b .kept .1 .1 .1 .1 .1 .0 in
     let k = l .inv .1 in
     let v = l .inv .2 in
-    let a = p .3 .parted in
+    let a = p .0 .parts-are .parted in
     let f = a .lanes-fit in
     let m = lanes-few _ _ _ (c .before .before .before .before .before .before .lanes-in .ensures) .0 in
     let t = c .before .before .before .if1 .taken in
-    (in-order _ _ (p .0) _ _ _ _ (e .setting .arranged) (omega arith), p .0 .few-nodes, a .chunks-few, omega arith, omega arith, omega arith)
+    (in-order _ _ (p .0 .table-in) _ _ _ _ (e .setting .arranged) (omega arith), p .0 .table-in .few-nodes, a .chunks-few, omega arith, omega arith, omega arith)
 
 add-t42 : tie.Need-add-t42 Inv-loop μ-loop
 add-t42 c =
@@ -127,7 +127,7 @@ returns c =
     let ev = c .before .before .before .before .before .before .before .before .before .before .before .before .evaluate .ensures in
     let going = c .before .before .before .before .before .before .before .before .before .before .before .before .before .before .before .loop-test .taken in
     let vl = c .before .before .values-of .kept .1 .1 .1 .1 .1 .0 ∙ l .inv .2 in
-    let room = p .7 in
+    let room = p .4 in
     let q = l .inv .0 (s .args .plan .root) (s .args .start) e .0 in
     falsifies _ _ _ _ _ _ _ _ (e .setting) q _ (all-fresh _ _ _ _ _ _ _ _ (e .setting) _ _ _ _ _ q w _ ev) _ _ (many .0)
     (root-found _ _ _ _ _ (e .root-is) (c .before .before .before .before .before .before .before .first-false .ensures)) (l .tried) (w .going going) (w .held) _ (w .block-inside) (many .1)
@@ -201,8 +201,8 @@ lay-slow-requires c κs =
     let d = c .before .before .before .before .before .before .before .before .before .before .before .before .before .before .evaluate .kept .1 .1 .1 .1 .0 in
     let cl = b .kept .1 .1 .1 .1 .1 .0 in
     let k = l .inv .1 in
-    let u = digits-fit (16 * s .args .plan .parts .chunks) (s .args .plan .shape .nodes) (length (s .args .cells .now)) (p .6) in
-    (omega arith, p .3 .parted .chunks-few, nx .turning .digits-long, omega arith, digits-small _ (nx .turning))
+    let u = digits-fit (16 * s .args .plan .parts .chunks) (s .args .plan .shape .nodes) (length (s .args .cells .now)) (p .3) in
+    (omega arith, p .0 .parts-are .parted .chunks-few, nx .turning .digits-long, omega arith, digits-small _ (nx .turning))
 
 add-number : tie.Need-add-number Inv-loop μ-loop
 add-number c =
@@ -244,7 +244,7 @@ number-requires c κs = search needs
 loop-less : tie.Need-loop-less Inv-loop μ-loop
 loop-less c =
     let m = lanes-few _ _ _ (c .before .before .before .before .before .before .before .before .before .before .before .before .before .before .before .before .before .lanes-in .ensures) in
-    let some = c .before .before .before .before .before .before .before .before .before .before .before .before .before .before .before .before .before .before .before .before .before .before .before .before .before .before .before .before .before .before .before .before .before .before .before .before .before .before .before .before .before .before .before .before .pre .3 .parted .lanes-some in
+    let some = c .before .before .before .before .before .before .before .before .before .before .before .before .before .before .before .before .before .before .before .before .before .before .before .before .before .before .before .before .before .before .before .before .before .before .before .before .before .before .before .before .before .before .before .before .pre .0 .parts-are .parted .lanes-some in
     let test = c .before .before .before .before .before .before .before .before .before .before .before .before .before .before .before .before .before .before .before .before .before .before .before .loop-test .taken in
     loop-falls _ _ _ _ m some test
 

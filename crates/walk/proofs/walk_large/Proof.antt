@@ -19,12 +19,12 @@ walk-in-requires : tie.Need-walk-in-requires
 walk-in-requires c κs =
     let s = c .before .before .before .before .before .before in
     let p = s .pre in
-    let few = p .0 .few-nodes in
+    let few = p .0 .table-in .few-nodes in
     let a = length-replicate {A = ℕ} 2632 0 in
     let b = length-replicate {A = ℕ} 10528 0 in
     let d = length-replicate {A = ℕ} 57344 0 in
-    let room = p .3 .room in
-    (p .0, p .1, p .2, p .3, omega arith, omega arith, omega arith, p .4)
+    let room = p .0 .parts-are .room in
+    (p .0, omega arith, omega arith, omega arith, p .1)
 
 same-length : tie.Need-same-length
 same-length c = search needs

@@ -20,12 +20,12 @@ walk-in-requires : tie.Need-walk-in-requires
 walk-in-requires c κs =
     let s = c .before .before .before .before .before .before in
     let p = s .pre in
-    let few = p .0 .few-nodes in
+    let few = p .0 .table-in .few-nodes in
     let a = length-replicate {A = ℕ} 86 0 in
     let b = length-replicate {A = ℕ} 344 0 in
     let d = length-replicate {A = ℕ} 16384 0 in
-    let room = cells-few (s .args .plan .parts .chunks) (s .args .plan .shape .nodes) (p .3 .parted .chunks-few) (p .4) in
-    (p .0, p .1, p .2, p .3, omega arith, omega arith, omega arith, p .5)
+    let room = cells-few (s .args .plan .parts .chunks) (s .args .plan .shape .nodes) (p .0 .parts-are .parted .chunks-few) (p .1) in
+    (p .0, omega arith, omega arith, omega arith, p .2)
 
 same-length : tie.Need-same-length
 same-length c = search needs
