@@ -2,8 +2,8 @@
 //! of sixteen lanes.
 //!
 //! The same functions could be shared. But then the compiler no longer puts them into the
-//! reference's `decide`, and its walk comes out some 9% slower: the bench must not slow one of the
-//! sides that it times.
+//! reference's `decide`, and in one comparison its walk then came out some 9% slower: the bench
+//! must not slow one of the sides that it times.
 
 #[path = "../../reference/eliminate.rs"]
 mod eliminate;
