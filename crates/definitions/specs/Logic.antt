@@ -76,10 +76,17 @@ nodeValue I symbols vs n = opValue I vs (opOf (n .op)) n (map (numberAt vs) (ope
 abbrev pub values : Interpretation → List ℕ → List Node → List Value
 values I symbols t = grown (nodeValue I symbols) [] t
 
--- the formula of a problem, its last node, is true
+-- the formula at a named root of a problem is true (02, E2)
+unfoldable pub holdsAt : Interpretation → List ℕ → ℕ → Bool
+holdsAt I s root = truthAt (values I (symbolsOf s) (nodesOf s)) root
+
+-- it is valid if true in every interpretation
+unfoldable pub ValidAt : List ℕ → ℕ → Type 0
+ValidAt s root = (I : Interpretation) → holdsAt I s root ≡ true
+
+-- the same of the last node, which is 01's formula of a problem
 unfoldable pub holds : Interpretation → List ℕ → Bool
 holds I s = truthAt (values I (symbolsOf s) (nodesOf s)) (length (nodesOf s) - 1)
 
--- a formula is valid if true in every interpretation
 unfoldable pub Valid : List ℕ → Type 0
 Valid s = (I : Interpretation) → holds I s ≡ true

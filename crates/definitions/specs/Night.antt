@@ -1,10 +1,11 @@
--- The night run: jobs from standard input, a line for each (01, 'The night run'). Assumes nothing.
+-- The night run: jobs from standard input, a line for each (01, 'The night run'; 02, E2). Assumes nothing.
 use Prim.Native.Nat.{ℕ, zero, suc, _+_, _/_, _%_}
 use mathlib.Core.List.{List, [], _∷_, _++_}
 use mathlib.Core.Bool.{Bool, true, false, _&&_}
 use lib.ListN.{length, take, drop}
 use lib.Dec.{eqb, leb}
 use Rattle.definitions.specs.Bytes.{twoAt, lowFirst}
+use Rattle.definitions.specs.Problem.Asked.{lastNode}
 use Rattle.definitions.specs.Operations.Answers.{Answer, refused, given, Verdict, isValid, isFalsified, isStopped, Decided, decideAnswer}
 
 -- the decimal digits of a number, before those in hand; n has at most n digits, and 0 has one, so n + 1 is fuel enough
@@ -59,9 +60,9 @@ abbrev pub said : Answer Decided → List ℕ
 said (refused r) = word REFUSED ++ word (decimal (r .number)) ++ word (decimal (r .place))
 said (given d) = word (verdictWord (d .verdict)) ++ word (decimal (d .tried)) ++ word (decimal (d .product))
 
--- the line of job k: its budget, its problem bytes. The buffers are of the least length that is taken
+-- the line of job k: its budget, its problem bytes, whose last node is named. The buffers are of the least length that is taken
 abbrev pub jobLine : ℕ → ℕ → List ℕ → List ℕ
-jobLine k budget s = line (JOB ++ word (decimal k) ++ said (decideAnswer s budget 21056 206))
+jobLine k budget s = line (JOB ++ word (decimal k) ++ said (decideAnswer s (lastNode s) budget 21056 206))
 
 -- a whole job stands at the start of the input; its budget, its problem bytes, and what comes after it
 abbrev pub whole : List ℕ → Bool

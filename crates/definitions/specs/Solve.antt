@@ -11,6 +11,7 @@ use Rattle.definitions.specs.Lists.{all, concatMap}
 use Rattle.definitions.specs.Bytes.{byteAt}
 use Rattle.definitions.specs.Problem.Ops.{isFunction}
 use Rattle.definitions.specs.Problem.Check.{Refused}
+use Rattle.definitions.specs.Problem.Asked.{lastNode}
 use Rattle.definitions.specs.Witness.{Row, rowsIn}
 use Rattle.definitions.specs.Operations.Answers.{Answer, refused, given, Verdict, isValid, isFalsified, isStopped, Decided, decideAnswer}
 use Rattle.definitions.specs.Operations.Buffers.{witnessAfter}
@@ -175,7 +176,8 @@ tablesAfter text problem witness isValid = []
 tablesAfter text problem witness isFalsified = tableLines text problem witness
 tablesAfter text problem witness isStopped = []
 
--- what is printed of a decision on the problem of a text, and of the read answer, whose problem stands in a buffer
+-- what is printed of a decision on the problem of a text, and of the read answer, whose problem stands in a buffer; the last node is
+-- named (02, E2)
 abbrev pub decisionLines : List ℕ → List ℕ → List ℕ → Answer Decided → List ℕ
 decisionLines text problem witness (refused r) = errorLine text r
 decisionLines text problem witness (given d) = answerLines text (given d) ++ tablesAfter text problem witness (d .verdict)
@@ -184,7 +186,8 @@ abbrev pub readLines : List ℕ → ℕ → List ℕ → Answer ℕ → List ℕ
 readLines text budget buffer (refused r) = errorLine text r
 readLines text budget buffer (given written) =
     let problem = take written buffer in
-    decisionLines text problem (witnessAfter problem budget 21056 (replicate 206 0)) (decideAnswer problem budget 21056 206)
+    let root = lastNode problem in
+    decisionLines text problem (witnessAfter problem root budget 21056 (replicate 206 0)) (decideAnswer problem root budget 21056 206)
 
 -- what the program prints. Its buffers are of the least lengths that are taken
 unfoldable pub solved : List ℕ → ℕ → List ℕ

@@ -3,5 +3,6 @@ pub mod Problems
 pub mod Rows
 pub mod Tables
 pub mod Facts
+pub mod Roots
 pub mod Texts
 pub mod Solved

@@ -3,8 +3,8 @@
 ghost use mathlib.Core.Path.{_≡_};
 ghost use Rattle.definitions.specs.Operations.Readings.{refusalRead};
 
-// The refusals, one list for every operation: 1 to 13 are decide's, in the order tried; the last three are read's. Four of them
-// have a place.
+// The refusals, one list for every operation, by number: some numbers are not given. The order in which an operation tries its own
+// is that of its conditions (specs/Problem/Asked, specs/Operations/Answers): decide's 16 comes after 7. Four of them have a place.
 pub enum Refusal {
     TooShort,
     NotEqp,
@@ -13,7 +13,6 @@ pub enum Refusal {
     BadLength,
     BadSymbol(usize),
     BadNode(usize),
-    TermAsked,
     ManyFunctions,
     ManyPredicates,
     ShortWork,
@@ -21,6 +20,7 @@ pub enum Refusal {
     BigProduct,
     WrongToken(usize),
     TooDeep(usize),
+    WrongRoot,
     ShortProblem,
 }
 
@@ -36,7 +36,6 @@ pub fn number_of(refusal: Refusal) -> u8
         Refusal::BadLength => 5,
         Refusal::BadSymbol(_) => 6,
         Refusal::BadNode(_) => 7,
-        Refusal::TermAsked => 8,
         Refusal::ManyFunctions => 9,
         Refusal::ManyPredicates => 10,
         Refusal::ShortWork => 11,
@@ -44,6 +43,7 @@ pub fn number_of(refusal: Refusal) -> u8
         Refusal::BigProduct => 13,
         Refusal::WrongToken(_) => 14,
         Refusal::TooDeep(_) => 15,
+        Refusal::WrongRoot => 16,
         Refusal::ShortProblem => 23,
     }
 }
@@ -60,7 +60,6 @@ pub fn place_of(refusal: Refusal) -> usize
         Refusal::BadLength => 0,
         Refusal::BadSymbol(k) => k,
         Refusal::BadNode(k) => k,
-        Refusal::TermAsked => 0,
         Refusal::ManyFunctions => 0,
         Refusal::ManyPredicates => 0,
         Refusal::ShortWork => 0,
@@ -68,17 +67,18 @@ pub fn place_of(refusal: Refusal) -> usize
         Refusal::BigProduct => 0,
         Refusal::WrongToken(k) => k,
         Refusal::TooDeep(k) => k,
+        Refusal::WrongRoot => 0,
         Refusal::ShortProblem => 0,
     }
 }
 
-// What check answers: the counts of distinct function and predicate applications.
+// What check answers: the counts of distinct function and predicate applications that the root reaches.
 pub enum Checked {
     Accepted { functions: usize, predicates: usize },
     Refused(Refusal),
 }
 
-// What eliminate answers: the count of function-free nodes, and the root.
+// What eliminate answers: the count of function-free nodes, and the image of the root.
 pub enum Eliminated {
     Table { nodes: usize, root: usize },
     Refused(Refusal),

@@ -1,4 +1,4 @@
--- The calls from the overnight rig: what each returns, and what it writes into the answer buffer (01, 'The job'; 02, E1; the
+-- The calls from the overnight rig: what each returns, and what it writes into the answer buffer (01, 'The job'; 02, E1 and E2; the
 -- layouts are docs/FORMAT.md, 'The host's answer'). Assumes nothing.
 use Prim.Native.Nat.{ℕ}
 use mathlib.Core.List.{List, _∷_, _++_}
@@ -33,16 +33,16 @@ pub record HostOutcome : Type 0 where
   pub answer : List ℕ
 
 -- an answer buffer under 32 bytes returns 0 before anything else is tried, and changes no buffer
-unfoldable pub hostOutcome : ℕ → List ℕ → List ℕ → List ℕ → List ℕ → HostOutcome
-hostOutcome budget s work witness answer =
+unfoldable pub hostOutcome : ℕ → ℕ → List ℕ → List ℕ → List ℕ → List ℕ → HostOutcome
+hostOutcome budget root s work witness answer =
     elim (ltb (length answer) 32) [
       | true ↦ record { returned = 0; work = work; witness = witness; answer = answer }
       | false ↦
           record {
             returned = 1;
-            work = workAfterDecide s work (length witness);
-            witness = witnessAfter s budget (length work) witness;
-            answer = over (answerBytes (decideAnswer s budget (length work) (length witness))) answer;
+            work = workAfterDecide s root work (length witness);
+            witness = witnessAfter s root budget (length work) witness;
+            answer = over (answerBytes (decideAnswer s root budget (length work) (length witness))) answer;
           }
     ]
 

@@ -1,5 +1,6 @@
 -- What each public operation promises, for every input: the answer, read in the paper's numbers, and every lent buffer's whole
--- content afterwards (01, 'Promises and idle programs'). A name with a prime is the content afterwards. Assumes nothing.
+-- content afterwards (01, 'Promises and idle programs'). s are the problem bytes, root the node asked (02, E2). A name with a prime is
+-- the content afterwards. Assumes nothing.
 use Prim.Native.Nat.{ℕ}
 use mathlib.Core.Path.{_≡_}
 use mathlib.Core.List.{List}
@@ -15,27 +16,27 @@ use Rattle.definitions.specs.declared.Ranges.{Ranges}
 use Rattle.definitions.specs.declared.Decision.{Decision}
 use Rattle.definitions.specs.declared.Reading.{Reading}
 
-pub record CheckPromise (s : List ℕ) (r : Checked) : Type 0 where
-  pub answers : checkedRead r ≡ checkAnswer s
+pub record CheckPromise (root : ℕ) (s : List ℕ) (r : Checked) : Type 0 where
+  pub answers : checkedRead r ≡ checkAnswer s root
 
-pub record EliminatePromise (s work : List ℕ) (r : Eliminated) (work′ : List ℕ) : Type 0 where
-  pub answers : eliminatedRead r ≡ eliminateAnswer s (length work)
-  pub work-after : work′ ≡ workAfter s work
+pub record EliminatePromise (root : ℕ) (s work : List ℕ) (r : Eliminated) (work′ : List ℕ) : Type 0 where
+  pub answers : eliminatedRead r ≡ eliminateAnswer s root (length work)
+  pub work-after : work′ ≡ workAfter s root work
 
-pub record RangesPromise (s work : List ℕ) (r : Ranges) (work′ : List ℕ) : Type 0 where
-  pub answers : rangesRead r ≡ rangesAnswer s (length work)
-  pub work-after : work′ ≡ workAfter s work
+pub record RangesPromise (root : ℕ) (s work : List ℕ) (r : Ranges) (work′ : List ℕ) : Type 0 where
+  pub answers : rangesRead r ≡ rangesAnswer s root (length work)
+  pub work-after : work′ ≡ workAfter s root work
 
-pub record DecidePromise (budget : ℕ) (s work witness : List ℕ) (r : Decision) (work′ witness′ : List ℕ) : Type 0 where
-  pub answers : decisionRead r ≡ decideAnswer s budget (length work) (length witness)
-  pub work-after : work′ ≡ workAfterDecide s work (length witness)
-  pub witness-after : witness′ ≡ witnessAfter s budget (length work) witness
+pub record DecidePromise (budget root : ℕ) (s work witness : List ℕ) (r : Decision) (work′ witness′ : List ℕ) : Type 0 where
+  pub answers : decisionRead r ≡ decideAnswer s root budget (length work) (length witness)
+  pub work-after : work′ ≡ workAfterDecide s root work (length witness)
+  pub witness-after : witness′ ≡ witnessAfter s root budget (length work) witness
 
-pub record HostPromise (budget : ℕ) (s work witness answer : List ℕ) (r : ℕ) (work′ witness′ answer′ : List ℕ) : Type 0 where
-  pub returns : r ≡ hostOutcome budget s work witness answer .returned
-  pub work-after : work′ ≡ hostOutcome budget s work witness answer .work
-  pub witness-after : witness′ ≡ hostOutcome budget s work witness answer .witness
-  pub answer-after : answer′ ≡ hostOutcome budget s work witness answer .answer
+pub record HostPromise (budget root : ℕ) (s work witness answer : List ℕ) (r : ℕ) (work′ witness′ answer′ : List ℕ) : Type 0 where
+  pub returns : r ≡ hostOutcome budget root s work witness answer .returned
+  pub work-after : work′ ≡ hostOutcome budget root s work witness answer .work
+  pub witness-after : witness′ ≡ hostOutcome budget root s work witness answer .witness
+  pub answer-after : answer′ ≡ hostOutcome budget root s work witness answer .answer
 
 -- read (02, E1): the length of the problem written, or the refusal; and the problem buffer
 pub record ReadPromise (text problem : List ℕ) (r : Reading) (problem′ : List ℕ) : Type 0 where

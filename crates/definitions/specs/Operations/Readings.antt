@@ -24,7 +24,6 @@ use Rattle.definitions.specs.declared.Refusal.the-variants.{
   BadLength,
   BadSymbol,
   BadNode,
-  TermAsked,
   ManyFunctions,
   ManyPredicates,
   ShortWork,
@@ -32,6 +31,7 @@ use Rattle.definitions.specs.declared.Refusal.the-variants.{
   BigProduct,
   WrongToken,
   TooDeep,
+  WrongRoot,
   ShortProblem,
 }
 use Rattle.definitions.specs.declared.Checked.{Checked}
@@ -49,7 +49,6 @@ refusalRead BadCounts = refuse 4 0
 refusalRead BadLength = refuse 5 0
 refusalRead (BadSymbol k) = refuse 6 k
 refusalRead (BadNode k) = refuse 7 k
-refusalRead TermAsked = refuse 8 0
 refusalRead ManyFunctions = refuse 9 0
 refusalRead ManyPredicates = refuse 10 0
 refusalRead ShortWork = refuse 11 0
@@ -57,6 +56,7 @@ refusalRead ShortWitness = refuse 12 0
 refusalRead BigProduct = refuse 13 0
 refusalRead (WrongToken k) = refuse 14 k
 refusalRead (TooDeep k) = refuse 15 k
+refusalRead WrongRoot = refuse 16 0
 refusalRead ShortProblem = refuse 23 0
 
 abbrev pub checkedRead : Checked → Answer Counts

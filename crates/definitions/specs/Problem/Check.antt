@@ -1,6 +1,6 @@
--- Which problems are taken, and what refuses the others: conditions 1 to 10, in the order tried (01, 'Refusal numbers').
--- Assumes nothing.
-use Prim.Native.Nat.{ℕ, suc, _+_, _*_, _-_}
+-- What stands in problem bytes, and what refuses a table: conditions 1 to 7, in the order tried (01, 'Refusal numbers'). Assumes
+-- nothing.
+use Prim.Native.Nat.{ℕ, suc, _+_, _*_}
 use mathlib.Core.List.{List, [], _∷_}
 use mathlib.Core.Bool.{Bool, true, false, not, _&&_, _||_}
 use mathlib.Core.Option.{Option, none, some}
@@ -8,7 +8,7 @@ use lib.ListN.{length, take, drop}
 use lib.Dec.{ltb, eqb}
 use Rattle.definitions.specs.Lists.{any, firstFailing, firstOf, snoc}
 use Rattle.definitions.specs.Bytes.{byteAt, twoAt, EQP}
-use Rattle.definitions.specs.Problem.Node.{Node, node, same, nodesAt}
+use Rattle.definitions.specs.Problem.Node.{Node, same, nodesAt}
 use Rattle.definitions.specs.Problem.Ops.{opOf, term, sortOf, sameSort, isFunction, isPredicate, nodeRight}
 
 -- what the header says: the count of symbols, the count of nodes
@@ -42,9 +42,9 @@ firstWrong symbols earlier (n ∷ ns) =
       | false ↦ some (length earlier)
     ]
 
--- the last node, the formula asked, is a term
-abbrev pub termAsked : List Node → Bool
-termAsked t = sameSort (sortOf (opOf (node t (length t - 1) .op))) term
+-- a node is a term; else it is a formula
+abbrev pub isTerm : Node → Bool
+isTerm n = sameSort (sortOf (opOf (n .op))) term
 
 -- the distinct applications of an op, in order: its nodes that repeat no earlier node
 abbrev pub distinct : ℕ → List Node → List Node → List Node
@@ -80,9 +80,9 @@ abbrev pub refuseAt : Option ℕ → ℕ → Option Refused
 refuseAt none number = none
 refuseAt (some place) number = some (refuse number place)
 
--- conditions 1 to 10
-abbrev pub checkConditions : List ℕ → List (Option Refused)
-checkConditions s =
+-- conditions 1 to 7, over the whole table
+abbrev pub layoutConditions : List ℕ → List (Option Refused)
+layoutConditions s =
     refuseIf (ltb (length s) 8) 1
     ∷ refuseIf (not (stands s 0 EQP)) 2
     ∷ refuseIf (not (eqb (twoAt s 3) 1)) 3
@@ -90,11 +90,8 @@ checkConditions s =
     ∷ refuseIf (not (eqb (length s) (8 + symbolCount s + 8 * nodeCount s))) 5
     ∷ refuseAt (firstFailing symbolByteRight 0 (symbolsOf s)) 6
     ∷ refuseAt (firstWrong (symbolsOf s) [] (nodesOf s)) 7
-    ∷ refuseIf (termAsked (nodesOf s)) 8
-    ∷ refuseIf (ltb 24 (functionsIn (nodesOf s))) 9
-    ∷ refuseIf (ltb 16 (predicatesIn (nodesOf s))) 10
     ∷ []
 
--- the refusal among 1 to 10; none where the problem is taken
-unfoldable pub refusalOf : List ℕ → Option Refused
-refusalOf s = firstOf (checkConditions s)
+-- the refusal among them; none where the table is well formed
+unfoldable pub layoutRefusal : List ℕ → Option Refused
+layoutRefusal s = firstOf (layoutConditions s)

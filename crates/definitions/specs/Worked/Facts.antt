@@ -5,7 +5,7 @@ use Prim.Native.Nat.{ℕ}
 use mathlib.Core.List.{List, [], _∷_, _++_, map}
 use lib.ListN.{length}
 use Rattle.definitions.specs.Bytes.{bytesOf, two}
-use Rattle.definitions.specs.Problem.Check.{refusalOf}
+use Rattle.definitions.specs.Problem.Asked.{asked, refusalOf}
 use Rattle.definitions.specs.Elimination.{eliminated}
 use Rattle.definitions.specs.Ranges.{tops, topsOf, sizesOf, product}
 use Rattle.definitions.specs.Places.{valuesAt, trueAt}
@@ -50,6 +50,6 @@ sampleLines =
 
 pub night-sample : nightRun sampleJobs ≡ sampleLines
 unfolding
-    nightRun decideAnswer decideRefusal buffersRefusal eliminateRefusal refusalOf outcomeOf trueAt valuesAt witnessAt rowsAt
+    nightRun decideAnswer decideRefusal buffersRefusal eliminateRefusal refusalOf asked outcomeOf trueAt valuesAt witnessAt rowsAt
     product sizesOf topsOf tops eliminated
 night-sample = refl

@@ -5,7 +5,7 @@ use mathlib.Core.Option.{Option, none, some}
 use Prim.Native.Nat.{ℕ}
 use mathlib.Core.List.{List, [], _∷_, _++_, map}
 use Rattle.definitions.specs.Bytes.{EQW}
-use Rattle.definitions.specs.Problem.Check.{refusalOf}
+use Rattle.definitions.specs.Problem.Asked.{asked, refusalOf, lastNode}
 use Rattle.definitions.specs.Elimination.{eliminated}
 use Rattle.definitions.specs.Ranges.{tops, topsOf, sizesOf, product}
 use Rattle.definitions.specs.Places.{valuesAt, trueAt}
@@ -27,14 +27,14 @@ use Rattle.definitions.specs.Worked.Problems.{row1, row2, row3, row4, ro
 
 -- a row of the paper: the formula asked, what decide answers, and the witness bytes where the paper gives them
 pub record Worked : Type 0 where
-  pub asked : List ℕ
+  pub formula : List ℕ
   pub says : Answer Decided
   pub writes : Option (List ℕ)
 
 abbrev row : List ℕ → Verdict → ℕ → ℕ → ℕ → Option (List ℕ) → Worked
-row asked verdict tried product written writes =
+row formula verdict tried product written writes =
     record {
-      asked = asked;
+      formula = formula;
       says = given (record { verdict = verdict; tried = tried; product = product; written = written });
       writes = writes;
     }
@@ -78,11 +78,11 @@ witnessSeen s (Answer.refused r) (some w) = some []
 -- what the definitions give for a row's formula, with an ample budget and buffers of the least length
 abbrev pub seen : Worked → Worked
 seen r =
-    let answer = decideAnswer (r .asked) 100 21056 206 in
-    record { asked = r .asked; says = answer; writes = witnessSeen (r .asked) answer (r .writes) }
+    let answer = decideAnswer (r .formula) (lastNode (r .formula)) 100 21056 206 in
+    record { formula = r .formula; says = answer; writes = witnessSeen (r .formula) answer (r .writes) }
 
 pub rows : map seen table ≡ table
 unfolding
-    decideAnswer decideRefusal buffersRefusal eliminateRefusal refusalOf outcomeOf trueAt valuesAt witnessAt rowsAt product
+    decideAnswer decideRefusal buffersRefusal eliminateRefusal refusalOf asked outcomeOf trueAt valuesAt witnessAt rowsAt product
     sizesOf topsOf tops eliminated
 rows = refl

@@ -7,7 +7,7 @@ use Rattle.definitions.specs.Text.Ascii.{ascii}
 use Rattle.definitions.specs.Text.Tokens.{tokensOf}
 use Rattle.definitions.specs.Text.Reader.{step, scriptRead}
 use Rattle.definitions.specs.Text.Nodes.{ask, nodesOfScript, bytesOfScript, problemOfScript, limitsOfScript, taken, readAnswer, readBuffer}
-use Rattle.definitions.specs.Problem.Check.{refusalOf}
+use Rattle.definitions.specs.Problem.Asked.{asked, refusalOf}
 use Rattle.definitions.specs.Elimination.{eliminated}
 use Rattle.definitions.specs.Ranges.{tops, topsOf, sizesOf, product}
 use Rattle.definitions.specs.Places.{valuesAt, trueAt}
@@ -58,9 +58,9 @@ abbrev xy : List ℕ
 xy = H ++ ascii "(declare-fun x () U)(declare-fun y () U)"
 
 pub worked-sat : solved (xy ++ ascii "(assert (not (= x y)))(check-sat)") 10 ≡ ascii "sat\n; x = 1\n; y = 2\n"
-unfolding solved readAnswer readBuffer taken scriptRead tokensOf step bytesOfScript nodesOfScript problemOfScript limitsOfScript ask errorLine positionOf answerLines rowLine nameAt decideAnswer witnessAfter witnessAt rowsAt outcomeOf decideRefusal buffersRefusal eliminateRefusal refusalOf product tops topsOf sizesOf eliminated valuesAt trueAt
+unfolding solved readAnswer readBuffer taken scriptRead tokensOf step bytesOfScript nodesOfScript problemOfScript limitsOfScript ask errorLine positionOf answerLines rowLine nameAt decideAnswer witnessAfter witnessAt rowsAt outcomeOf decideRefusal buffersRefusal eliminateRefusal refusalOf asked product tops topsOf sizesOf eliminated valuesAt trueAt
 worked-sat = refl
 
 pub worked-unsat : solved (xy ++ ascii "(declare-fun f (U) U)(assert (= x y))(assert (not (= (f x) (f y))))(check-sat)") 4 ≡ ascii "unsat\n"
-unfolding solved readAnswer readBuffer taken scriptRead tokensOf step bytesOfScript nodesOfScript problemOfScript limitsOfScript ask errorLine positionOf answerLines rowLine nameAt decideAnswer witnessAfter witnessAt rowsAt outcomeOf decideRefusal buffersRefusal eliminateRefusal refusalOf product tops topsOf sizesOf eliminated valuesAt trueAt
+unfolding solved readAnswer readBuffer taken scriptRead tokensOf step bytesOfScript nodesOfScript problemOfScript limitsOfScript ask errorLine positionOf answerLines rowLine nameAt decideAnswer witnessAfter witnessAt rowsAt outcomeOf decideRefusal buffersRefusal eliminateRefusal refusalOf asked product tops topsOf sizesOf eliminated valuesAt trueAt
 worked-unsat = refl
