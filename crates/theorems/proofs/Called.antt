@@ -13,7 +13,8 @@ use borrow.Author.Tests.{lt-ltb, le-ltb}
 use Rattle.definitions.specs.Bytes.{lowFirst, bytesOf, two, twoAt}
 use Rattle.definitions.specs.Problem.Node.{tableBytes}
 use Rattle.definitions.specs.Problem.Check.{Refused}
-use Rattle.definitions.specs.Logic.{Valid, holds}
+use Rattle.definitions.specs.Problem.Asked.{asked}
+use Rattle.definitions.specs.Logic.{ValidAt, holdsAt}
 use Rattle.definitions.specs.Elimination.{tableOf}
 use Rattle.definitions.specs.Ranges.{product}
 use Rattle.definitions.specs.Places.{trueAt}
@@ -26,8 +27,8 @@ use Rattle.definitions.specs.Operations.Host.{answerBytes, HostOutcome, hostOut
 use Rattle.definitions.specs.Operations.Promises.{DecidePromise, HostPromise}
 use Rattle.definitions.specs.declared.Refusal.{Refusal}
 use Rattle.definitions.specs.declared.Decision.{Decision}
-use Rattle.theorems.specs.Conditions.{number, place, Refuses, Passes}
-use Rattle.theorems.specs.Searched.{Falsifiable}
+use Rattle.theorems.specs.Conditions.{number, place, turn, Refuses, Passes}
+use Rattle.theorems.specs.Searched.{FalsifiableAt}
 use Rattle.theorems.specs.Called.{verdictIn, refusalIn, writtenIn, placeIn, triedIn, productIn}
 use Rattle.theorems.proofs.Tables.Back.{two-back}
 use Rattle.theorems.proofs.Refusing.{refusal-named, place-small}
@@ -44,23 +45,27 @@ bytes-back (suc k) n h =
     omega arith
 
 -- some decision is decide's, whatever the input
-pub decides : (s : List ℕ) (budget work room : ℕ) → (d : Decision) × (decisionRead d ≡ decideAnswer s budget work room)
+pub decides : (s : List ℕ) (root budget work room : ℕ) → (d : Decision) × (decisionRead d ≡ decideAnswer s root budget work room)
 unfolding decideAnswer
-decides s budget work room = go (decideRefusal s work room) refl
+decides s root budget work room = go (decideRefusal s root work room) refl
   where
-    go : (o : Option Refused) → decideRefusal s work room ≡ o
-        → (d : Decision) × (decisionRead d ≡ unless o (decided s (outcomeOf s budget)))
-    go none e = (decisionOf s (outcomeOf s budget), decision-read s (outcomeOf s budget))
+    go : (o : Option Refused) → decideRefusal s root work room ≡ o
+        → (d : Decision) × (decisionRead d ≡ unless o (decided (asked s root) (outcomeOf (asked s root) budget)))
+    go none e = (decisionOf (asked s root) (outcomeOf (asked s root) budget), decision-read (asked s root) (outcomeOf (asked s root) budget))
     go (some q) e =
-        let x = refusal-named s work room q e in
+        let x = refusal-named s root work room q e in
         (Decision.Refused (x .0), ap refused (x .1))
 
 module _
-    (budget : ℕ)
+    (budget root : ℕ)
     (s work witness answer : List ℕ)
     (r : ℕ)
     (work′ witness′ answer′ : List ℕ)
-    (promise : HostPromise budget s work witness answer r work′ witness′ answer′) where
+    (promise : HostPromise budget root s work witness answer r work′ witness′ answer′) where
+  -- the problem asked
+  abbrev a : List ℕ
+  a = asked s root
+
   abbrev outcomeBy : Bool → HostOutcome
   outcomeBy b =
       elim b [
@@ -68,13 +73,13 @@ module _
         | false ↦
             record {
               returned = 1;
-              work = workAfterDecide s work (length witness);
-              witness = witnessAfter s budget (length work) witness;
-              answer = over (answerBytes (decideAnswer s budget (length work) (length witness))) answer;
+              work = workAfterDecide s root work (length witness);
+              witness = witnessAfter s root budget (length work) witness;
+              answer = over (answerBytes (decideAnswer s root budget (length work) (length witness))) answer;
             }
       ]
 
-  outcome-by : (b : Bool) → ltb (length answer) 32 ≡ b → hostOutcome budget s work witness answer ≡ outcomeBy b
+  outcome-by : (b : Bool) → ltb (length answer) 32 ≡ b → hostOutcome budget root s work witness answer ≡ outcomeBy b
   unfolding hostOutcome
   outcome-by b e = ap outcomeBy e
 
@@ -90,11 +95,11 @@ module _
 
   -- in a longer one stand the bytes of a decision that is decide's, and then what stood there
   pub long-call : 32 ≤ length answer
-      → (d : Decision) × DecidePromise budget s work witness d work′ witness′
+      → (d : Decision) × DecidePromise budget root s work witness d work′ witness′
       × (answer′ ≡ over (answerBytes (decisionRead d)) answer) × (r ≡ 1)
   long-call h =
       let o = outcome-by false (le-ltb (length answer) 32 h) in
-      let d = decides s budget (length work) (length witness) in (
+      let d = decides s root budget (length work) (length witness) in (
         d .0,
         record {
           answers = d .1;
@@ -109,36 +114,36 @@ module _
   -- what byte 0 tells
   abbrev pub Told : ℕ → Type 0
   Told zero =
-      (x : Refusal) × (refusalIn answer′ ≡ number x) × (placeIn answer′ ≡ place x) × Refuses s (length work) (length witness) x
-      × (witness′ ≡ witness) × (number x ≤ 12 → work′ ≡ work) × (number x ≡ 13 → work′ ≡ over (tableBytes (tableOf s)) work)
+      (x : Refusal) × (refusalIn answer′ ≡ number x) × (placeIn answer′ ≡ place x) × Refuses s root (length work) (length witness) x
+      × (witness′ ≡ witness) × (turn x ≤ 12 → work′ ≡ work) × (turn x ≡ 13 → work′ ≡ over (tableBytes (tableOf a)) work)
   Told (suc zero) =
-      (productIn answer′ ≡ product s) × (triedIn answer′ ≡ product s) × (product s ≤ budget) × Valid s × (witness′ ≡ witness)
+      (productIn answer′ ≡ product a) × (triedIn answer′ ≡ product a) × (product a ≤ budget) × ValidAt s root × (witness′ ≡ witness)
   Told (suc (suc zero)) =
-      (productIn answer′ ≡ product s) × (1 ≤ triedIn answer′) × (triedIn answer′ ≤ product s) × (triedIn answer′ ≤ budget)
-      × (trueAt s (triedIn answer′) ≡ false) × ((p : ℕ) → 1 ≤ p → p < triedIn answer′ → trueAt s p ≡ true)
-      × (holds (tablesOf witness′) s ≡ false)
-      × (writtenIn answer′ ≡ length (witnessAt s (triedIn answer′)))
-      × (witness′ ≡ over (witnessAt s (triedIn answer′)) witness)
+      (productIn answer′ ≡ product a) × (1 ≤ triedIn answer′) × (triedIn answer′ ≤ product a) × (triedIn answer′ ≤ budget)
+      × (trueAt a (triedIn answer′) ≡ false) × ((p : ℕ) → 1 ≤ p → p < triedIn answer′ → trueAt a p ≡ true)
+      × (holdsAt (tablesOf witness′) s root ≡ false)
+      × (writtenIn answer′ ≡ length (witnessAt a (triedIn answer′)))
+      × (witness′ ≡ over (witnessAt a (triedIn answer′)) witness)
   Told (suc (suc (suc zero))) =
-      (productIn answer′ ≡ product s) × (triedIn answer′ ≡ budget) × (budget < product s)
-      × ((p : ℕ) → 1 ≤ p → p ≤ budget → trueAt s p ≡ true) × (witness′ ≡ witness)
+      (productIn answer′ ≡ product a) × (triedIn answer′ ≡ budget) × (budget < product a)
+      × ((p : ℕ) → 1 ≤ p → p ≤ budget → trueAt a p ≡ true) × (witness′ ≡ witness)
   Told (suc (suc (suc (suc n)))) = ⊥
 
   -- eight bytes are enough for the numbers of an answer
-  module _ (d : Decision) (decide : DecidePromise budget s work witness d work′ witness′) (values : Decided) (e : decisionRead d ≡ given values) where
-    input : Taken s (length work) (length witness)
-    input = taken-input budget s work witness d work′ witness′ decide values e
+  module _ (d : Decision) (decide : DecidePromise budget root s work witness d work′ witness′) (values : Decided) (e : decisionRead d ≡ given values) where
+    input : Taken s root (length work) (length witness)
+    input = taken-input budget root s work witness d work′ witness′ decide values e
 
-    eight-back : (n : ℕ) → n ≤ product s → lowFirst (bytesOf 8 n) ≡ n
+    eight-back : (n : ℕ) → n ≤ product a → lowFirst (bytesOf 8 n) ≡ n
     eight-back n h = let l = input .product-small in bytes-back 8 n (omega arith)
 
-    written-back : (p : ℕ) → twoAt (two (length (witnessAt s p))) 0 ≡ length (witnessAt s p)
-    written-back p = let l = witness-short s (input .problem) p in two-back (length (witnessAt s p)) (omega arith)
+    written-back : (p : ℕ) → twoAt (two (length (witnessAt a p))) 0 ≡ length (witnessAt a p)
+    written-back p = let l = witness-short a (input .problem) p in two-back (length (witnessAt a p)) (omega arith)
 
-  told-by : (d : Decision) → DecidePromise budget s work witness d work′ witness′ → answer′ ≡ over (answerBytes (decisionRead d)) answer
+  told-by : (d : Decision) → DecidePromise budget root s work witness d work′ witness′ → answer′ ≡ over (answerBytes (decisionRead d)) answer
       → Told (verdictIn answer′)
   told-by (Decision.Valid t p) decide e =
-      let v = valid-decision budget s work witness (Decision.Valid t p) work′ witness′ decide t p refl in
+      let v = valid-decision budget root s work witness (Decision.Valid t p) work′ witness′ decide t p refl in
       let back = eight-back (Decision.Valid t p) decide _ refl in
       subst Told (sym (ap verdictIn e)) (
         ap productIn e ∙ back p (omega arith) ∙ v .0,
@@ -148,7 +153,7 @@ module _
         v .4,
       )
   told-by (Decision.Falsified t p w) decide e =
-      let f = falsified-decision budget s work witness (Decision.Falsified t p w) work′ witness′ decide t p w refl in
+      let f = falsified-decision budget root s work witness (Decision.Falsified t p w) work′ witness′ decide t p w refl in
       let back = eight-back (Decision.Falsified t p w) decide _ refl in
       let count : triedIn answer′ ≡ t = ap triedIn e ∙ back t (f .2) in
       subst Told (sym (ap verdictIn e)) (
@@ -156,15 +161,15 @@ module _
         omega (arith, f .1),
         omega (arith, f .2),
         omega (arith, f .3),
-        ap (trueAt s) count ∙ f .4,
+        ap (trueAt a) count ∙ f .4,
         λ q l h. f .5 q l (omega arith),
         f .6,
         ap writtenIn e ∙ ap (λ n. twoAt (two n) 0) (f .7) ∙ written-back (Decision.Falsified t p w) decide _ refl t
-            ∙ ap (λ n. length (witnessAt s n)) (sym count),
-        f .8 ∙ ap (λ n. over (witnessAt s n) witness) (sym count),
+            ∙ ap (λ n. length (witnessAt a n)) (sym count),
+        f .8 ∙ ap (λ n. over (witnessAt a n) witness) (sym count),
       )
   told-by (Decision.Stopped t p) decide e =
-      let v = stopped-decision budget s work witness (Decision.Stopped t p) work′ witness′ decide t p refl in
+      let v = stopped-decision budget root s work witness (Decision.Stopped t p) work′ witness′ decide t p refl in
       let back = eight-back (Decision.Stopped t p) decide _ refl in
       subst Told (sym (ap verdictIn e)) (
         ap productIn e ∙ back p (omega arith) ∙ v .0,
@@ -174,9 +179,9 @@ module _
         v .4,
       )
   told-by (Decision.Refused x) decide e =
-      let c = refused-exactly budget s work witness (Decision.Refused x) work′ witness′ decide x .0 refl in
-      let l = refused-leaves budget s work witness (Decision.Refused x) work′ witness′ decide x refl in
-      let small = place-small s (length work) (length witness) x c in
+      let c = refused-exactly budget root s work witness (Decision.Refused x) work′ witness′ decide x .0 refl in
+      let l = refused-leaves budget root s work witness (Decision.Refused x) work′ witness′ decide x refl in
+      let small = place-small s root (length work) (length witness) x c in
       subst Told (sym (ap verdictIn e)) (x, ap refusalIn e, ap placeIn e ∙ bytes-back 8 (place x) (omega arith), c, l .0, l .1, l .2)
 
   pub told : 32 ≤ length answer → Told (verdictIn answer′)
@@ -199,8 +204,8 @@ module _
       (c .3, told-code (verdictIn answer′) (told h), ap (drop 32) (c .2) ∙ past-bytes (decisionRead (c .0)))
 
   -- with a budget of at least the product
-  pub told-enough : 32 ≤ length answer → Passes s (length work) (length witness) → product s ≤ budget
-      → ((verdictIn answer′ ≡ 1) ↔ Valid s) × ((verdictIn answer′ ≡ 2) ↔ Falsifiable s)
+  pub told-enough : 32 ≤ length answer → Passes s root (length work) (length witness) → product a ≤ budget
+      → ((verdictIn answer′ ≡ 1) ↔ ValidAt s root) × ((verdictIn answer′ ≡ 2) ↔ FalsifiableAt s root)
   told-enough h p enough =
       let c = long-call h in
       let d = c .0 in
@@ -209,12 +214,12 @@ module _
       in (
         (
           λ e. subst Told e (told h) .3,
-          λ v. byte (Decision.Valid (product s) (product s)) (valid-decided budget s work witness d work′ witness′ (c .1) p enough .1 v),
+          λ v. byte (Decision.Valid (product a) (product a)) (valid-decided budget root s work witness d work′ witness′ (c .1) p enough .1 v),
         ),
         (
           λ e. (tablesOf witness′, subst Told e (told h) .6),
           λ f.
-              let q = falsified-decided budget s work witness d work′ witness′ (c .1) p enough .1 f in
-              byte (Decision.Falsified (q .0) (product s) (q .1)) (q .2),
+              let q = falsified-decided budget root s work witness d work′ witness′ (c .1) p enough .1 f in
+              byte (Decision.Falsified (q .0) (product a) (q .1)) (q .2),
         ),
       )

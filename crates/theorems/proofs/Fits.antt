@@ -191,7 +191,7 @@ truths-at-most M (suc n) h = (h, truths-at-most M n h)
 
 module _ (s : List ℕ) (ok : Accepted s) where
   nodes-few : length (nodesOf s) ≤ 256
-  nodes-few = let e = length-nodesAt s (8 + symbolCount s) (nodeCount s) in let h = ok .few-nodes in omega arith
+  nodes-few = let e = length-nodesAt s (8 + symbolCount s) (nodeCount s) in let h = ok .layout .few-nodes in omega arith
 
   -- at most 2,632 nodes result
   pub table-short : length (tableOf s) ≤ 2632

@@ -8,6 +8,7 @@ pub mod Domains
 pub mod Accepted
 pub mod Truth
 pub mod Fits
+pub mod Asked
 pub mod Exactly
 pub mod Taken
 pub mod Unique
@@ -16,5 +17,6 @@ pub mod Decided
 pub mod Growing
 pub mod Called
 pub mod Top
+pub mod Appended
 pub mod HostTop
 pub mod Text

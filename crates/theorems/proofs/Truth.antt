@@ -83,65 +83,65 @@ module _ (s : List ℕ) (ok : Accepted s) where
   P = predicatesIn T
 
   -- the last problem node
-  abbrev pub asked : ℕ
-  asked = length T - 1
+  abbrev pub final : ℕ
+  final = length T - 1
 
-  pub asked-below : asked < length T
-  asked-below = let e : length T ≡ nodeCount s = length-nodesAt s (8 + symbolCount s) (nodeCount s) in let h = ok .some-nodes in omega arith
+  pub final-below : final < length T
+  final-below = let e : length T ≡ nodeCount s = length-nodesAt s (8 + symbolCount s) (nodeCount s) in let h = ok .layout .some-nodes in omega arith
 
   -- the function-free table is well formed, with a variable for each distinct application
   pub table-free : Free N P (tableOf s)
   unfolding eliminated
   table-free =
       subst₂ (λ (n p : ℕ). Free n p (tableOf s)) (count-apps (symbolsOf s) 0 refl T) (count-apps (symbolsOf s) 6 refl T)
-      (eliminated-free (symbolsOf s) T (ok .nodes-right))
+      (eliminated-free (symbolsOf s) T (ok .layout .nodes-right))
 
-  pub root-image : rootOf (eliminated s) ≡ imageOf s asked
+  pub root-image : rootOf (eliminated s) ≡ imageOf s final
   unfolding eliminated
-  root-image = ap (λ (n : ℕ). imageOf s (n - 1)) (images-length (symbolsOf s) T (ok .nodes-right))
+  root-image = ap (λ (n : ℕ). imageOf s (n - 1)) (images-length (symbolsOf s) T (ok .layout .nodes-right))
 
   pub root-within : rootOf (eliminated s) < length (tableOf s)
   unfolding eliminated
   root-within =
       subst (λ (k : ℕ). k < length (tableOf s)) (sym root-image)
-      (image-within (symbolsOf s) T (ok .nodes-right) asked asked-below)
+      (image-within (symbolsOf s) T (ok .layout .nodes-right) final final-below)
 
   pub root-formula : sortAt (tableOf s) (rootOf (eliminated s)) ≡ formula
   unfolding eliminated
   root-formula =
-      ap (sortAt (tableOf s)) root-image ∙ image-sort (symbolsOf s) T (ok .nodes-right) asked asked-below
-      ∙ not-term (sortAt T asked) (ok .formula-asked)
+      ap (sortAt (tableOf s)) root-image ∙ image-sort (symbolsOf s) T (ok .layout .nodes-right) final final-below
+      ∙ not-term (sortAt T final) (ok .formula-asked)
 
   -- an assignment comes from an interpretation, with the same value at every node
   pub interpretationOf : Interpretation → Interpretation
-  interpretationOf A = built A (symbolsOf s) T (ok .nodes-right)
+  interpretationOf A = built A (symbolsOf s) T (ok .layout .nodes-right)
 
   pub of-assignment : (A : Interpretation) (k : ℕ) → k < length T
       → valueAt (values (interpretationOf A) (symbolsOf s) T) k ≡ valueAt (values A [] (tableOf s)) (imageOf s k)
   unfolding eliminated interpretationOf
-  of-assignment A k h = sym (built-value A (symbolsOf s) T (ok .nodes-right) k h)
+  of-assignment A k h = sym (built-value A (symbolsOf s) T (ok .layout .nodes-right) k h)
 
   -- an interpretation gives an assignment, with the same value at every node
   pub assignmentOf : Interpretation → Interpretation
-  assignmentOf I = assigned I (symbolsOf s) T (ok .nodes-right)
+  assignmentOf I = assigned I (symbolsOf s) T (ok .layout .nodes-right)
 
   pub of-interpretation : (I : Interpretation) (k : ℕ) → k < length T
       → valueAt (values (assignmentOf I) [] (tableOf s)) (imageOf s k) ≡ valueAt (values I (symbolsOf s) T) k
   unfolding eliminated assignmentOf
-  of-interpretation I k h = assigned-value I (symbolsOf s) T (ok .nodes-right) k h
+  of-interpretation I k h = assigned-value I (symbolsOf s) T (ok .layout .nodes-right) k h
 
   -- in particular the same truth of the formula
   pub assignment-truth : (A : Interpretation) → holds (interpretationOf A) s ≡ rootTruth s A
   unfolding holds
   assignment-truth A =
-      ap truthOf (of-assignment A asked asked-below)
+      ap truthOf (of-assignment A final final-below)
       ∙ ap (λ (k : ℕ). truthAt (values A [] (tableOf s)) k) (sym root-image)
 
   pub interpretation-truth : (I : Interpretation) → rootTruth s (assignmentOf I) ≡ holds I s
   unfolding holds
   interpretation-truth I =
       ap (λ (k : ℕ). truthAt (values (assignmentOf I) [] (tableOf s)) k) root-image
-      ∙ ap truthOf (of-interpretation I asked asked-below)
+      ∙ ap truthOf (of-interpretation I final final-below)
 
   -- every assignment has the truth of some place within the ranges
   pub place-of : (A : Interpretation) → (p : ℕ) × (1 ≤ p) × (p ≤ product s) × (rootTruth s A ≡ trueAt s p)

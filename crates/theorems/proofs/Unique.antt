@@ -1,9 +1,10 @@
 -- No second answer or buffer content meets a promise: the readings of the answer enums can be undone, and the rest of each
 -- promise is an equation. Assumes nothing.
 use mathlib.Core.Path.{_≡_, refl, sym, ap, _∙_}
-use Prim.Native.Nat.{ℕ, pred}
+use Prim.Native.Nat.{ℕ}
 use mathlib.Core.List.{List, [], _∷_}
-use lib.ListN.{getD}
+use mathlib.Core.Bool.{true, false}
+use lib.Dec.{eqb}
 use Rattle.definitions.specs.Problem.Check.{Refused}
 use Rattle.definitions.specs.Operations.Answers.{
   Answer,
@@ -46,7 +47,6 @@ use Rattle.definitions.specs.declared.Refusal.the-variants.{
   BadLength,
   BadSymbol,
   BadNode,
-  TermAsked,
   ManyFunctions,
   ManyPredicates,
   ShortWork,
@@ -54,6 +54,7 @@ use Rattle.definitions.specs.declared.Refusal.the-variants.{
   BigProduct,
   WrongToken,
   TooDeep,
+  WrongRoot,
   ShortProblem,
 }
 use Rattle.definitions.specs.declared.Checked.{Checked}
@@ -67,27 +68,33 @@ use Rattle.definitions.specs.declared.Reading.{Reading}
 apart : {A B : Type 0} (read : A → B) (undo : B → A) → ((x : A) → undo (read x) ≡ x) → (x y : A) → read x ≡ read y → x ≡ y
 apart read undo back x y e = sym (back x) ∙ ap undo e ∙ back y
 
--- the refusal of a number and a place
+-- the refusals by number, with their place; the numbers have gaps
+abbrev byNumber : ℕ → List (ℕ × Refusal)
+byNumber k =
+    (1, TooShort)
+    ∷ (2, NotEqp)
+    ∷ (3, BadVersion)
+    ∷ (4, BadCounts)
+    ∷ (5, BadLength)
+    ∷ (6, BadSymbol k)
+    ∷ (7, BadNode k)
+    ∷ (9, ManyFunctions)
+    ∷ (10, ManyPredicates)
+    ∷ (11, ShortWork)
+    ∷ (12, ShortWitness)
+    ∷ (13, BigProduct)
+    ∷ (14, WrongToken k)
+    ∷ (15, TooDeep k)
+    ∷ (16, WrongRoot)
+    ∷ []
+
+-- the one of a number; past the list, the last
+abbrev named : ℕ → List (ℕ × Refusal) → Refusal
+named n [] = ShortProblem
+named n (x ∷ xs) = elim (eqb (x .0) n) [ true ↦ x .1 | false ↦ named n xs ]
+
 abbrev refusalNamed : Refused → Refusal
-refusalNamed r =
-    getD
-    (TooShort
-    ∷ NotEqp
-    ∷ BadVersion
-    ∷ BadCounts
-    ∷ BadLength
-    ∷ BadSymbol (r .place)
-    ∷ BadNode (r .place)
-    ∷ TermAsked
-    ∷ ManyFunctions
-    ∷ ManyPredicates
-    ∷ ShortWork
-    ∷ ShortWitness
-    ∷ BigProduct
-    ∷ WrongToken (r .place)
-    ∷ TooDeep (r .place)
-    ∷ [])
-    (pred (r .number)) ShortProblem
+refusalNamed r = named (r .number) (byNumber (r .place))
 
 refusal-back : (r : Refusal) → refusalNamed (refusalRead r) ≡ r
 refusal-back TooShort = refl
@@ -97,7 +104,6 @@ refusal-back BadCounts = refl
 refusal-back BadLength = refl
 refusal-back (BadSymbol k) = refl
 refusal-back (BadNode k) = refl
-refusal-back TermAsked = refl
 refusal-back ManyFunctions = refl
 refusal-back ManyPredicates = refl
 refusal-back ShortWork = refl
@@ -105,6 +111,7 @@ refusal-back ShortWitness = refl
 refusal-back BigProduct = refl
 refusal-back (WrongToken k) = refl
 refusal-back (TooDeep k) = refl
+refusal-back WrongRoot = refl
 refusal-back ShortProblem = refl
 
 abbrev checkedNamed : Answer Counts → Checked
@@ -171,31 +178,31 @@ pub reading-apart : (r q : Reading) → readingRead r ≡ readingRead q → r �
 reading-apart = apart readingRead readingNamed reading-back
 
 -- two outcomes that meet the promise on one input are equal
-pub check-unique : (s : List ℕ) (r q : Checked) → CheckPromise s r → CheckPromise s q → r ≡ q
-check-unique s r q x y = apart checkedRead checkedNamed checked-back r q (x .answers ∙ sym (y .answers))
+pub check-unique : (root : ℕ) (s : List ℕ) (r q : Checked) → CheckPromise root s r → CheckPromise root s q → r ≡ q
+check-unique root s r q x y = apart checkedRead checkedNamed checked-back r q (x .answers ∙ sym (y .answers))
 
-pub eliminate-unique : (s work : List ℕ) (r q : Eliminated) (w v : List ℕ)
-    → EliminatePromise s work r w → EliminatePromise s work q v → (r ≡ q) × (w ≡ v)
-eliminate-unique s work r q w v x y =
+pub eliminate-unique : (root : ℕ) (s work : List ℕ) (r q : Eliminated) (w v : List ℕ)
+    → EliminatePromise root s work r w → EliminatePromise root s work q v → (r ≡ q) × (w ≡ v)
+eliminate-unique root s work r q w v x y =
     (apart eliminatedRead eliminatedNamed eliminated-back r q (x .answers ∙ sym (y .answers)), x .work-after ∙ sym (y .work-after))
 
-pub ranges-unique : (s work : List ℕ) (r q : Ranges) (w v : List ℕ)
-    → RangesPromise s work r w → RangesPromise s work q v → (r ≡ q) × (w ≡ v)
-ranges-unique s work r q w v x y =
+pub ranges-unique : (root : ℕ) (s work : List ℕ) (r q : Ranges) (w v : List ℕ)
+    → RangesPromise root s work r w → RangesPromise root s work q v → (r ≡ q) × (w ≡ v)
+ranges-unique root s work r q w v x y =
     (apart rangesRead rangesNamed ranges-back r q (x .answers ∙ sym (y .answers)), x .work-after ∙ sym (y .work-after))
 
-pub decide-unique : (budget : ℕ) (s work witness : List ℕ) (r q : Decision) (w v w′ v′ : List ℕ)
-    → DecidePromise budget s work witness r w w′ → DecidePromise budget s work witness q v v′ → (r ≡ q) × (w ≡ v) × (w′ ≡ v′)
-decide-unique budget s work witness r q w v w′ v′ x y = (
+pub decide-unique : (budget root : ℕ) (s work witness : List ℕ) (r q : Decision) (w v w′ v′ : List ℕ)
+    → DecidePromise budget root s work witness r w w′ → DecidePromise budget root s work witness q v v′ → (r ≡ q) × (w ≡ v) × (w′ ≡ v′)
+decide-unique budget root s work witness r q w v w′ v′ x y = (
   decision-apart r q (x .answers ∙ sym (y .answers)),
   x .work-after ∙ sym (y .work-after),
   x .witness-after ∙ sym (y .witness-after),
 )
 
-pub host-unique : (budget : ℕ) (s work witness answer : List ℕ) (r q : ℕ) (w v w′ v′ a b : List ℕ)
-    → HostPromise budget s work witness answer r w w′ a → HostPromise budget s work witness answer q v v′ b
+pub host-unique : (budget root : ℕ) (s work witness answer : List ℕ) (r q : ℕ) (w v w′ v′ a b : List ℕ)
+    → HostPromise budget root s work witness answer r w w′ a → HostPromise budget root s work witness answer q v v′ b
     → (r ≡ q) × (w ≡ v) × (w′ ≡ v′) × (a ≡ b)
-host-unique budget s work witness answer r q w v w′ v′ a b x y = (
+host-unique budget root s work witness answer r q w v w′ v′ a b x y = (
   x .returns ∙ sym (y .returns),
   x .work-after ∙ sym (y .work-after),
   x .witness-after ∙ sym (y .witness-after),

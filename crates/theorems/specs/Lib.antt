@@ -1,4 +1,6 @@
 pub mod Conditions
+pub mod Appending
+pub mod Asking
 pub mod Searched
 pub mod Classes
 pub mod Called

@@ -18,7 +18,6 @@ use Rattle.definitions.specs.declared.Refusal.the-variants.{
   BadLength,
   BadSymbol,
   BadNode,
-  TermAsked,
   ManyFunctions,
   ManyPredicates,
   ShortWork,
@@ -26,6 +25,7 @@ use Rattle.definitions.specs.declared.Refusal.the-variants.{
   BigProduct,
   WrongToken,
   TooDeep,
+  WrongRoot,
   ShortProblem,
 }
 use Rattle.theorems.specs.Texts.{ReadAs, StopsAt, EndsEarly, DeepAt}
@@ -68,7 +68,7 @@ RefusesText text room BadVersion = ⊥
 RefusesText text room BadLength = ⊥
 RefusesText text room (BadSymbol k) = ⊥
 RefusesText text room (BadNode k) = ⊥
-RefusesText text room TermAsked = ⊥
+RefusesText text room WrongRoot = ⊥
 RefusesText text room ShortWork = ⊥
 RefusesText text room ShortWitness = ⊥
 RefusesText text room BigProduct = ⊥

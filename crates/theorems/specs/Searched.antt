@@ -9,14 +9,17 @@ use lib.ListN.{length}
 use lib.Dec.{leb}
 use Rattle.definitions.specs.Lists.{productOf}
 use Rattle.definitions.specs.Problem.Node.{nodesAt}
-use Rattle.definitions.specs.Logic.{Interpretation, values, truthAt, holds}
+use Rattle.definitions.specs.Logic.{Interpretation, values, truthAt, holds, holdsAt}
 use Rattle.definitions.specs.Elimination.{eliminated, tableOf, rootOf}
 use Rattle.definitions.specs.Verdict.{Outcome, valid, falsified, stopped}
 use Rattle.definitions.specs.declared.Decision.{Decision}
 
--- some interpretation makes the formula false
+-- some interpretation makes the formula false; and that at a named root
 abbrev pub Falsifiable : List ℕ → Type 0
 Falsifiable s = (I : Interpretation) × (holds I s ≡ false)
+
+abbrev pub FalsifiableAt : List ℕ → ℕ → Type 0
+FalsifiableAt s root = (I : Interpretation) × (holdsAt I s root ≡ false)
 
 -- the truth, under an assignment, of the root of the function-free table that stands at the start of some bytes
 abbrev pub tableTruth : List ℕ → List ℕ → Interpretation → Bool

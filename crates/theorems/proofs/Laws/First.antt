@@ -19,6 +19,19 @@ module _ {A : Type 0} where
   all-none (none ∷ xs) e = (refl, all-none xs e)
   all-none (some x ∷ xs) e = absurd (none≢some (sym e))
 
+  -- of two lists, one after the other
+  pub none-left : (xs ys : List (Option A)) → AllNone (xs ++ ys) → AllNone xs
+  none-left [] ys p = tt
+  none-left (x ∷ xs) ys p = (p .0, none-left xs ys (p .1))
+
+  pub none-right : (xs ys : List (Option A)) → AllNone (xs ++ ys) → AllNone ys
+  none-right [] ys p = p
+  none-right (x ∷ xs) ys p = none-right xs ys (p .1)
+
+  pub none-both : (xs ys : List (Option A)) → AllNone xs → AllNone ys → AllNone (xs ++ ys)
+  none-both [] ys p q = q
+  none-both (x ∷ xs) ys p q = (p .0, none-both xs ys (p .1) q)
+
   pub first-none : (xs : List (Option A)) → AllNone xs → firstOf xs ≡ none
   first-none [] p = refl
   first-none (y ∷ ys) p = rw (p .0) (first-none ys (p .1))

@@ -1,14 +1,16 @@
--- A table read back from its bytes is the table, whatever stands after them. Assumes nothing.
+-- A table read back from its bytes is the table, whatever stands after them; and problem bytes give back the symbols and the nodes.
+-- Assumes nothing.
 use mathlib.Core.Path.{_≡_, refl, sym, ap, ap₂, _∙_}
 use Prim.Native.Nat.{ℕ, zero, suc, _+_, _*_, _/_, _%_, _<_}
 use native.Mathlib.Omega.{arith}
-use mathlib.Core.List.{List, [], _∷_, _++_, append-assoc}
-use lib.ListN.{length}
-use lib.Seq.{getD-append-add}
+use mathlib.Core.List.{List, [], _∷_, _++_, append-assoc, append-nil}
+use lib.ListN.{length, length-append}
+use lib.Seq.{getD-append-add, take-append-seam}
 use Rattle.definitions.specs.Bytes.{byteAt, twoAt}
-use Rattle.definitions.specs.Problem.Node.{Node, node, nodeAt, nodesAt, nodeBytes, tableBytes}
+use Rattle.definitions.specs.Problem.Node.{Node, node, nodeAt, nodesAt, nodeBytes, tableBytes, problemBytes}
+use Rattle.definitions.specs.Problem.Check.{nodeCount, symbolsOf, nodesOf}
 use Rattle.definitions.specs.Operations.Buffers.{over}
-use Rattle.theorems.proofs.Fits.{FitsNode}
+use Rattle.theorems.proofs.Fits.{FitsNode, length-tableBytes}
 
 -- a number of two bytes
 pub two-back : (x : ℕ) → x < 65536 → x % 256 + 256 * (x / 256 % 256) ≡ x
@@ -65,3 +67,22 @@ nodes-back (n ∷ t) f rest =
 -- the table at the start of a buffer
 pub table-back : (t : List Node) → ((k : ℕ) → k < length t → FitsNode (node t k)) → (w : List ℕ) → nodesAt (over (tableBytes t) w) 0 (length t) ≡ t
 table-back t f w = nodes-back t (λ k h. let n = f k h in (n .a-fits, n .b-fits, n .c-fits)) _
+
+-- the bytes of symbols and nodes give them back
+pub symbols-back : (symbols : List ℕ) (t : List Node) → symbolsOf (problemBytes symbols t) ≡ symbols
+symbols-back symbols t = take-append-seam symbols (tableBytes t)
+
+pub nodes-read : (symbols : List ℕ) (t : List Node) → length t < 65536 → ((k : ℕ) → k < length t → Low (node t k)) → nodesOf (problemBytes symbols t) ≡ t
+nodes-read symbols t h f =
+    let s = problemBytes symbols t in
+    let front : List ℕ = 69 ∷ 81 ∷ 80 ∷ 1 ∷ 0 ∷ length symbols ∷ length t % 256 ∷ (length t / 256) % 256 ∷ symbols in
+    let count : nodeCount s ≡ length t = two-back (length t) h in
+    let place : 8 + length symbols ≡ length front + 0 = omega arith in
+    ap (nodesAt s (8 + length symbols)) count
+    ∙ nodes-after front (tableBytes t) 0 (8 + length symbols) (length t) place
+    ∙ ap (λ (xs : List ℕ). nodesAt xs 0 (length t)) (sym (append-nil (tableBytes t)))
+    ∙ nodes-back t f []
+
+-- the length of a problem: its header, its symbols and its nodes
+pub problem-length : (symbols : List ℕ) (t : List Node) → length (problemBytes symbols t) ≡ 8 + length symbols + 8 * length t
+problem-length symbols t = let x = length-append symbols (tableBytes t) in let y = length-tableBytes t in omega arith

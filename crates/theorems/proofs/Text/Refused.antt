@@ -1,5 +1,5 @@
 -- Read refuses exactly where it should, in the order tried, and takes every other text (02, E1). Assumes nothing.
-use mathlib.Core.Path.{_≡_, refl, sym, ap, _∙_, subst}
+use mathlib.Core.Path.{_≡_, refl, ap, _∙_, subst}
 use Prim.Native.Nat.{ℕ, _≤_, _<_}
 use native.Mathlib.Omega.{arith}
 use mathlib.Core.Bool.{Bool, true, false, _||_}
@@ -15,7 +15,7 @@ use Rattle.definitions.specs.Operations.Answers.{Answer, refused, given, unless
 use Rattle.definitions.specs.Operations.Readings.{refusalRead, readingRead}
 use Rattle.definitions.specs.Text.Grammar.{Script}
 use Rattle.definitions.specs.Text.Reader.{scriptRead}
-use Rattle.definitions.specs.Text.Nodes.{nodesOfScript, bytesOfScript, limits, limitsOfScript, problemOfScript, withinLimits, ifRoom, taken, lengthRead, readAnswer}
+use Rattle.definitions.specs.Text.Nodes.{nodesOfScript, bytesOfScript, limitsOfScript, problemOfScript, withinLimits, ifRoom, taken, lengthRead, readAnswer}
 use Rattle.definitions.specs.declared.Reading.{Reading}
 use Rattle.definitions.specs.declared.Refusal.{Refusal}
 use Rattle.definitions.specs.declared.Refusal.the-variants.{
@@ -26,7 +26,6 @@ use Rattle.definitions.specs.declared.Refusal.the-variants.{
   BadLength,
   BadSymbol,
   BadNode,
-  TermAsked,
   ManyFunctions,
   ManyPredicates,
   ShortWork,
@@ -34,6 +33,7 @@ use Rattle.definitions.specs.declared.Refusal.the-variants.{
   BigProduct,
   WrongToken,
   TooDeep,
+  WrongRoot,
   ShortProblem,
 }
 use Rattle.theorems.specs.Conditions.{place}
@@ -162,7 +162,7 @@ module _ (text : List ℕ) (room : ℕ) where
   refuses-so BadLength r = absurd r
   refuses-so (BadSymbol k) r = absurd r
   refuses-so (BadNode k) r = absurd r
-  refuses-so TermAsked r = absurd r
+  refuses-so WrongRoot r = absurd r
   refuses-so ShortWork r = absurd r
   refuses-so ShortWitness r = absurd r
   refuses-so BigProduct r = absurd r
@@ -213,7 +213,7 @@ module _ (text : List ℕ) (room : ℕ) where
   place-within BadLength r = absurd r
   place-within (BadSymbol k) r = absurd r
   place-within (BadNode k) r = absurd r
-  place-within TermAsked r = absurd r
+  place-within WrongRoot r = absurd r
   place-within ShortWork r = absurd r
   place-within ShortWitness r = absurd r
   place-within BigProduct r = absurd r

@@ -1,8 +1,8 @@
 -- The top of jobs in solver text: what read's promise means, and the promises of read and decide together, from the bytes of a text to
--- its verdict (02, E1). It reads without the lemmas.
+-- its verdict (02, E1; E2: the last node is named). It reads without the lemmas.
 --
--- text are the bytes read, problem the buffer lent to read and problem′ as left, r the answer. Decide is asked about the bytes
--- answered, with a budget and two buffers, which are work′ and witness′ as left; d is its answer.
+-- text are the bytes read, problem the buffer lent to read and problem′ as left, r the answer. Decide is asked about the last node of
+-- the bytes answered, with a budget and two buffers, which are work′ and witness′ as left; d is its answer.
 -- `RefusesText text room x`: refusal x comes, in the order tried. `TakesText text room s`: the text is read as the script s, whose
 -- problem is within the limits. Both speak of texts of the subset, and of no reader (specs/ReadConditions, specs/Texts).
 -- `problemOfScript s`: the problem's bytes. `Origin`, `NodeOf`, `NoTwins`: where its nodes come from (specs/Origins).
@@ -15,7 +15,8 @@ use mathlib.Core.Bool.{true, not}
 use mathlib.Core.List.{List}
 use mathlib.Core.Logic.{_⊎_, _↔_}
 use lib.ListN.{length, take}
-use Rattle.definitions.specs.Logic.{Interpretation, holds}
+use Rattle.definitions.specs.Problem.Asked.{asked, lastNode}
+use Rattle.definitions.specs.Logic.{Interpretation, holdsAt}
 use Rattle.definitions.specs.Ranges.{product}
 use Rattle.definitions.specs.Witness.{tablesOf}
 use Rattle.definitions.specs.Operations.Answers.{given}
@@ -66,7 +67,7 @@ places-mean = places-rise
 
 module _ (text : List ℕ) (room : ℕ) (s : Script) (takes : TakesText text room s) where
   -- MEANT: in every interpretation the problem is true exactly when the asserts joined by "and" are not
-  pub problem-means : (I : Interpretation) → holds I (problemOfScript s) ≡ not (assertsTrue I s)
+  pub problem-means : (I : Interpretation) → holdsAt I (problemOfScript s) (lastNode (problemOfScript s)) ≡ not (assertsTrue I s)
   problem-means = text-means text room s takes
 
   -- NODES: no two are equal; each is that of a part of a term, of a join or of the negation, each of these has one, and the negation
@@ -98,35 +99,39 @@ module _
       (work witness : List ℕ)
       (d : Decision)
       (work′ witness′ : List ℕ)
-      (decision : DecidePromise budget (take written problem′) work witness d work′ witness′) where
+      (decision : DecidePromise budget (lastNode (take written problem′)) (take written problem′) work witness d work′ witness′) where
     takes : TakesText text (length problem) s
     takes = script-takes text problem written problem′ reading s reads
 
-    asked : DecidePromise budget (problemOfScript s) work witness d work′ witness′
-    asked =
-        subst (λ (bytes : List ℕ). DecidePromise budget bytes work witness d work′ witness′)
+    on-script : DecidePromise budget (lastNode (problemOfScript s)) (problemOfScript s) work witness d work′ witness′
+    on-script =
+        subst (λ (bytes : List ℕ). DecidePromise budget (lastNode bytes) bytes work witness d work′ witness′)
         (script-bytes text problem written problem′ reading s reads) decision
 
-    -- JUDGED: decide refuses what was read only for a short buffer or a big product; 1 to 10 never come
+    -- what the last node reaches
+    abbrev a : List ℕ
+    a = asked (problemOfScript s) (lastNode (problemOfScript s))
+
+    -- JUDGED: decide refuses what was read only for a short buffer or a big product; 1 to 7, 16, 9 and 10 never come
     pub judged-means : (x : Refusal) → d ≡ Decision.Refused x → (x ≡ ShortWork) ⊎ ((x ≡ ShortWitness) ⊎ (x ≡ BigProduct))
-    judged-means = refused-judged text (length problem) s takes budget work witness d work′ witness′ asked
+    judged-means = refused-judged text (length problem) s takes budget work witness d work′ witness′ on-script
 
     -- UNSAT: valid says that no interpretation makes every assert true
     pub unsat-means : (tried places : ℕ) → d ≡ Decision.Valid tried places → Unsat s
-    unsat-means = valid-judged text (length problem) s takes budget work witness d work′ witness′ asked
+    unsat-means = valid-judged text (length problem) s takes budget work witness d work′ witness′ on-script
 
     -- SAT: falsified says that the tables written make every assert true
     pub sat-means : (tried places bytes : ℕ) → d ≡ Decision.Falsified tried places bytes → assertsTrue (tablesOf witness′) s ≡ true
-    sat-means = falsified-judged text (length problem) s takes budget work witness d work′ witness′ asked
+    sat-means = falsified-judged text (length problem) s takes budget work witness d work′ witness′ on-script
 
     -- ENOUGH: with buffers and a product that decide takes, and a budget of at least the product, it is valid exactly where the
     -- script is unsat, falsified exactly where it is sat, and one of the two
-    pub enough-means : 21056 ≤ length work → 206 ≤ length witness → product (problemOfScript s) ≤ 10 ^ 18 → product (problemOfScript s) ≤ budget
-        → ((d ≡ Decision.Valid (product (problemOfScript s)) (product (problemOfScript s))) ↔ Unsat s)
-        × (((tried bytes : ℕ) × (d ≡ Decision.Falsified tried (product (problemOfScript s)) bytes)) ↔ Sat s)
-        × ((Unsat s → ⊥) → (tried bytes : ℕ) × (d ≡ Decision.Falsified tried (product (problemOfScript s)) bytes))
+    pub enough-means : 21056 ≤ length work → 206 ≤ length witness → product a ≤ 10 ^ 18 → product a ≤ budget
+        → ((d ≡ Decision.Valid (product a) (product a)) ↔ Unsat s)
+        × (((tried bytes : ℕ) × (d ≡ Decision.Falsified tried (product a) bytes)) ↔ Sat s)
+        × ((Unsat s → ⊥) → (tried bytes : ℕ) × (d ≡ Decision.Falsified tried (product a) bytes))
     enough-means w r p h = (
-      unsat-judged text (length problem) s takes budget work witness d work′ witness′ asked w r p h,
-      sat-judged text (length problem) s takes budget work witness d work′ witness′ asked w r p h,
-      not-unsat-judged text (length problem) s takes budget work witness d work′ witness′ asked w r p h,
+      unsat-judged text (length problem) s takes budget work witness d work′ witness′ on-script w r p h,
+      sat-judged text (length problem) s takes budget work witness d work′ witness′ on-script w r p h,
+      not-unsat-judged text (length problem) s takes budget work witness d work′ witness′ on-script w r p h,
     )

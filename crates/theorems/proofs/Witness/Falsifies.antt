@@ -11,7 +11,7 @@ use Rattle.definitions.specs.Elimination.{eliminated}
 use Rattle.definitions.specs.Places.{assignmentAt, valuesAt, trueAt}
 use Rattle.definitions.specs.Witness.{tables, tablesOf, rowsAt, witnessAt}
 use Rattle.theorems.proofs.Accepted.{Accepted}
-use Rattle.theorems.proofs.Truth.{asked, asked-below, root-image}
+use Rattle.theorems.proofs.Truth.{final, final-below, root-image}
 use Rattle.theorems.proofs.Fits.{rows-few}
 use Rattle.theorems.proofs.Witness.ReadBack.{witness-length, tables-back}
 use Rattle.theorems.proofs.Witness.Tables.{tables-value}
@@ -26,7 +26,7 @@ module _ (s : List ℕ) (ok : Accepted s) (p : ℕ) where
   tables-truth : holds (tables (rowsAt s p)) s ≡ trueAt s p
   unfolding holds rowsAt trueAt valuesAt eliminated
   tables-truth =
-      ap truthOf (tables-value (assignmentAt s p) (symbolsOf s) (nodesOf s) (ok .nodes-right) (asked s ok) (asked-below s ok))
+      ap truthOf (tables-value (assignmentAt s p) (symbolsOf s) (nodesOf s) (ok .layout .nodes-right) (final s ok) (final-below s ok))
       ∙ ap (λ (k : ℕ). truthAt (valuesAt s p) k) (sym (root-image s ok))
 
   pub witness-truth : (rest : List ℕ) → holds (tablesOf (witnessAt s p ++ rest)) s ≡ trueAt s p

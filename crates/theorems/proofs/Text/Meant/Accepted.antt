@@ -1,25 +1,27 @@
--- Check takes the problem of every right script within the limits, so decide's promise speaks of it (02, E1). Assumes nothing.
-use mathlib.Core.Path.{_≡_, refl, sym, ap, ap₂, _∙_, subst}
-use Prim.Native.Nat.{ℕ, suc, _+_, _*_, _-_, _<_, _≤_}
+-- Check takes the last node of the problem of every right script within the limits, so decide's promise speaks of it (02, E1 and E2). Assumes nothing.
+use mathlib.Core.Path.{_≡_, refl, sym, ap, _∙_, subst}
+use Prim.Native.Nat.{ℕ, suc, _+_, _-_, _<_, _≤_}
 use native.Mathlib.Omega.{arith}
-use mathlib.Core.Bool.{Bool, true, false, not, _&&_, _||_, false≢true}
+use mathlib.Core.Bool.{Bool, true, false, _&&_, _||_, false≢true}
 use mathlib.Core.List.{List, [], _∷_, _++_, append-assoc, append-nil}
 use mathlib.Core.Option.{Option, none, some}
 use lib.ListN.{length, getD, length-append, length-map, List·getD-append}
 use lib.Seq.{getD-append-seam}
-use lib.Dec.{ltb, eqb, leb}
-use borrow.Author.Tests.{ltb-false, lt-ltb, leb-true, le-ltb, eq-eqb, ne-eqb}
+use lib.Dec.{ltb, leb}
+use borrow.Author.Tests.{ltb-false, lt-ltb, leb-true}
 use Rattle.definitions.specs.Lists.{snoc, firstFailing, firstOf}
-use Rattle.definitions.specs.Bytes.{EQP, twoAt}
-use Rattle.definitions.specs.Problem.Node.{Node, node, noNode, plain, tableBytes, problemBytes}
-use Rattle.definitions.specs.Problem.Ops.{Sort, term, formula, sameSort, sortOf, opOf, arity, symbolRight, isFunction, isPredicate}
-use Rattle.definitions.specs.Problem.Check.{symbolCount, nodeCount, symbolsOf, nodesOf, stands, symbolByteRight, firstWrong, termAsked, functionsIn, predicatesIn, refuseIf, refuseAt, refusalOf}
-use Rattle.theorems.proofs.Tables.Back.{Low, two-back}
+use Rattle.definitions.specs.Problem.Node.{Node, node, noNode, plain}
+use Rattle.definitions.specs.Problem.Ops.{Sort, term, formula, opOf, arity, symbolRight, isFunction, isPredicate}
+use Rattle.definitions.specs.Problem.Check.{nodesOf, symbolByteRight, firstWrong, isTerm, functionsIn, predicatesIn, refuseIf}
+use Rattle.definitions.specs.Problem.Asked.{lastNode, refusalOf}
+use Rattle.theorems.proofs.Tables.Back.{nodes-read}
 use Rattle.theorems.proofs.Laws.Tests.{and-left, and-right, and-intro, or-left, or-right, none≢some}
 use Rattle.definitions.specs.Text.Grammar.{Symbol, Terms, end, call, Command, declare, assert, Script, symbolsIn, assertsIn, noSymbol, symbolAt, termsRight, oneFormula, newFunction, newSort, commandsRight, scriptRight}
 use Rattle.definitions.specs.Text.Nodes.{Tree, operand, treesOf, Laid, lay, layAll, joined, assertTrees, ended, nodesOfScript, bytesOfScript, byteOf, symbolBytes, problemOfScript, limits, limitsOfScript}
 use Rattle.theorems.proofs.Text.Meant.Reading.{Small, byte-at, small-snoc, prefix-agrees}
-use Rattle.theorems.proofs.Text.Meant.Bytes.{problem-length, symbols-back, nodes-read, low}
+use Rattle.theorems.proofs.Text.Meant.Bytes.{low}
+use Rattle.theorems.proofs.Asked.Formed.{Named, bytes-nodes, bytes-layout}
+use Rattle.theorems.proofs.Asked.Fewer.{within-taken}
 use Rattle.theorems.proofs.Text.Meant.Sorted.{stood-lay, lay-wrong, AllSorted, all-wrong, wrong-snoc}
 use Rattle.theorems.proofs.Text.Meant.SortedTerms.{One, AllOne, one-left4, row-one}
 
@@ -112,38 +114,9 @@ limit-parts symbols t e = go (ltb 32 (length symbols)) (ltb 256 (length t)) (ltb
     go false false false true p q r s e′ = absurd (none≢some (sym e′))
     go false false false false p q r s e′ = record { symbols-fit = p; nodes-fit = q; functions-fit = r; predicates-fit = s }
 
--- conditions that do not hold refuse nothing
-none-holds : (a b c d e f g h : Bool) (o p : Option ℕ) → a ≡ false → b ≡ false → c ≡ false → d ≡ false → e ≡ false → o ≡ none → p ≡ none → f ≡ false → g ≡ false → h ≡ false
-    → firstOf
-    (refuseIf a 1 ∷ refuseIf b 2 ∷ refuseIf c 3 ∷ refuseIf d 4 ∷ refuseIf e 5 ∷ refuseAt o 6 ∷ refuseAt p 7 ∷ refuseIf f 8 ∷ refuseIf g 9 ∷ refuseIf h 10 ∷ [])
-    ≡ none
-none-holds a b c d e f g h o p a′ b′ c′ d′ e′ o′ p′ f′ g′ h′ = rw (a′, b′, c′, d′, e′, o′, p′, f′, g′, h′) refl
-
-neither : (a b c : Bool) → a ≡ false → b ≡ false → c ≡ false → a || b || c ≡ false
-neither a b c p q r = rw (p, q, r) refl
-
--- bytes of a table that is right, within the limits, whose last node is a formula
-bytes-taken : (symbols : List ℕ) (t : List Node) → WithinLimits symbols t → 0 < length t → ((k : ℕ) → k < length t → Low (node t k))
-    → firstFailing symbolByteRight 0 symbols ≡ none → firstWrong symbols [] t ≡ none → termAsked t ≡ false → refusalOf (problemBytes symbols t) ≡ none
-unfolding refusalOf
-bytes-taken symbols t w some-nodes lows bytes right asked =
-    let s = problemBytes symbols t in
-    let few = ltb-false 256 (length t) (w .nodes-fit) in
-    let sb = symbols-back symbols t in
-    let nb = nodes-read symbols t (omega arith) lows in
-    let n : nodeCount s ≡ length t = two-back (length t) (omega arith) in
-    let len : length s ≡ 8 + length symbols + 8 * length t = problem-length symbols t in
-    none-holds (ltb (length s) 8) (not (stands s 0 EQP)) (not (eqb (twoAt s 3) 1)) (ltb 32 (symbolCount s) || eqb (nodeCount s) 0 || ltb 256 (nodeCount s))
-    (not (eqb (length s) (8 + symbolCount s + 8 * nodeCount s))) (termAsked (nodesOf s)) (ltb 24 (functionsIn (nodesOf s))) (ltb 16 (predicatesIn (nodesOf s)))
-    (firstFailing symbolByteRight 0 (symbolsOf s)) (firstWrong (symbolsOf s) [] (nodesOf s)) (le-ltb (length s) 8 (omega arith)) refl refl
-    (neither (ltb 32 (length symbols)) (eqb (nodeCount s) 0) (ltb 256 (nodeCount s)) (w .symbols-fit) (ne-eqb (nodeCount s) 0 (λ q. omega arith)) (ap (ltb 256) n ∙ w .nodes-fit))
-    (ap not (eq-eqb (length s) (8 + length symbols + 8 * nodeCount s) (omega arith)))
-    (ap (firstFailing symbolByteRight 0) sb ∙ bytes) (ap₂ {C = Option ℕ} (λ (y : List ℕ) (u : List Node). firstWrong y [] u) sb nb ∙ right) (ap termAsked nb ∙ asked)
-    (ap (λ (u : List Node). ltb 24 (functionsIn u)) nb ∙ w .functions-fit) (ap (λ (u : List Node). ltb 16 (predicatesIn u)) nb ∙ w .predicates-fit)
-
 of-script : (s : Script) → scriptRight s ≡ true
     → (firstFailing symbolByteRight 0 (bytesOfScript s) ≡ none) × (firstWrong (bytesOfScript s) [] (nodesOfScript s) ≡ none) × (0 < length (nodesOfScript s))
-    × (termAsked (nodesOfScript s) ≡ false)
+    × (isTerm (node (nodesOfScript s) (length (nodesOfScript s) - 1)) ≡ false)
 unfolding scriptRight bytesOfScript nodesOfScript
 of-script s e =
     let cs = s .commands in
@@ -153,11 +126,39 @@ of-script s e =
     let n : Node = plain 3 (l .number) 0 0 in
     let len : length (ended l) ≡ length (l .table) + 1 = length-append (l .table) (n ∷ []) in
     let last : node (ended l) (length (ended l) - 1) ≡ n = ap (node (ended l)) (let q : length (ended l) - 1 ≡ length (l .table) = omega arith in q) ∙ getD-append-seam (l .table) n [] noNode in
-    (bytes-right (symbolsIn cs) 0 (a .1), ended-right (symbolBytes (symbolsIn cs)) ts (a .0), omega arith, ap (λ (m : Node). sameSort (sortOf (opOf (m .op))) term) last)
+    (bytes-right (symbolsIn cs) 0 (a .1), ended-right (symbolBytes (symbolsIn cs)) ts (a .0), omega arith, ap isTerm last)
 
-pub problem-taken : (s : Script) → scriptRight s ≡ true → limitsOfScript s ≡ none → refusalOf (problemOfScript s) ≡ none
+-- the bytes of the problem give back the script's nodes
+script-back : (s : Script) → scriptRight s ≡ true → limitsOfScript s ≡ none → nodesOf (problemOfScript s) ≡ nodesOfScript s
 unfolding limitsOfScript problemOfScript
+script-back s e l =
+    let few = ltb-false 256 (length (nodesOfScript s)) (limit-parts (bytesOfScript s) (nodesOfScript s) l .nodes-fit) in
+    nodes-read (bytesOfScript s) (nodesOfScript s) (omega arith) (low s few)
+
+-- the whole problem, with its last node named
+pub script-named : (s : Script) → scriptRight s ≡ true → limitsOfScript s ≡ none → Named (problemOfScript s) (lastNode (problemOfScript s))
+unfolding limitsOfScript problemOfScript
+script-named s e l =
+    let y : List ℕ = bytesOfScript s in
+    let t : List Node = nodesOfScript s in
+    let w = limit-parts y t l in
+    let parts = of-script s e in
+    let few = ltb-false 256 (length t) (w .nodes-fit) in
+    let some-there = parts .2 in
+    let few-symbols = ltb-false 32 (length y) (w .symbols-fit) in
+    let back = bytes-nodes y t few-symbols some-there few (low s few) (parts .0) (parts .1) in
+    record {
+      table = bytes-layout y t few-symbols some-there few (low s few) (parts .0) (parts .1);
+      is-node = (let n = ap length back in omega arith);
+      is-formula = ap (λ (u : List Node). isTerm (node u (length u - 1))) back ∙ parts .3;
+    }
+
+-- its root reaches no more applications than there are, so that 9 and 10 do not refuse it either
+pub problem-taken : (s : Script) → scriptRight s ≡ true → limitsOfScript s ≡ none
+    → refusalOf (problemOfScript s) (lastNode (problemOfScript s)) ≡ none
+unfolding limitsOfScript
 problem-taken s e l =
     let w = limit-parts (bytesOfScript s) (nodesOfScript s) l in
-    let parts = of-script s e in
-    bytes-taken (bytesOfScript s) (nodesOfScript s) w (parts .2) (low s (ltb-false 256 (length (nodesOfScript s)) (w .nodes-fit))) (parts .0) (parts .1) (parts .3)
+    within-taken (problemOfScript s) (lastNode (problemOfScript s)) (script-named s e l)
+    (subst (λ (u : List Node). functionsIn u ≤ 24) (sym (script-back s e l)) (ltb-false 24 (functionsIn (nodesOfScript s)) (w .functions-fit)))
+    (subst (λ (u : List Node). predicatesIn u ≤ 16) (sym (script-back s e l)) (ltb-false 16 (predicatesIn (nodesOfScript s)) (w .predicates-fit)))

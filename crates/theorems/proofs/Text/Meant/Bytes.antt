@@ -1,24 +1,21 @@
 -- The problem's bytes, read back as 01 reads them, are the symbols and the nodes; so the problem is true exactly when the asserts joined
 -- by "and" are not (02, E1: "Prove that the problem is true exactly when that negation is, in every interpretation"). Assumes nothing.
 use mathlib.Core.Path.{_≡_, refl, sym, ap, ap₂, _∙_}
-use Prim.Native.Nat.{ℕ, zero, suc, _+_, _-_, _*_, _/_, _%_, _<_, _≤_}
+use Prim.Native.Nat.{ℕ, _+_, _-_, _*_, _<_, _≤_}
 use native.Mathlib.Omega.{arith}
 use mathlib.Core.Bool.{Bool, true, false, not, _||_}
-use mathlib.Core.List.{List, [], _∷_, _++_, append-assoc, append-nil}
+use mathlib.Core.List.{List, [], _∷_}
 use mathlib.Core.Logic.{_⊎_, inl, inr}
 use mathlib.Core.Option.{Option, none, some}
 use lib.ListN.{length, length-append}
-use lib.Seq.{getD-append-add, take-append-seam}
 use lib.Dec.{ltb}
 use borrow.Author.Tests.{ltb-false}
 use Rattle.definitions.specs.Lists.{snoc, firstOf}
-use Rattle.definitions.specs.Bytes.{byteAt, twoAt}
-use Rattle.definitions.specs.Problem.Node.{Node, node, nodeAt, nodesAt, nodeBytes, tableBytes, plain, problemBytes}
-use Rattle.definitions.specs.Problem.Check.{nodeCount, symbolsOf, nodesOf, functionsIn, predicatesIn, refuseIf}
+use Rattle.definitions.specs.Problem.Node.{Node, node, plain}
+use Rattle.definitions.specs.Problem.Check.{functionsIn, predicatesIn, refuseIf}
 use Rattle.definitions.specs.Logic.{Interpretation, values, truthAt, holds}
 use Rattle.theorems.proofs.Laws.Tests.{none≢some}
-use Rattle.theorems.proofs.Fits.{length-tableBytes}
-use Rattle.theorems.proofs.Tables.Back.{Low, two-back, nodes-after, nodes-back}
+use Rattle.theorems.proofs.Tables.Back.{Low, symbols-back, nodes-read, problem-length}
 use Rattle.definitions.specs.Text.Grammar.{Script, scriptRight, assertsIn}
 use Rattle.definitions.specs.Text.Meaning.{assertsTrue}
 use Rattle.definitions.specs.Text.Nodes.{Tree, absent, tree, placeOf, foundOr, ask, lay, layAll, joined, assertTrees, ended, nodesOfScript, bytesOfScript, problemOfScript, limits, limitsOfScript}
@@ -100,25 +97,6 @@ ended-small ts =
     small-snoc (length (ended l)) (l .table) n
     (lay-small (length (ended l)) (joined ts) (layAll ts []) (omega arith) (all-small (length (ended l)) ts [] (omega arith) (λ k h. absurd (omega arith))))
     (omega arith, omega arith, omega arith)
-
--- the bytes of symbols and nodes give them back
-pub symbols-back : (symbols : List ℕ) (t : List Node) → symbolsOf (problemBytes symbols t) ≡ symbols
-symbols-back symbols t = take-append-seam symbols (tableBytes t)
-
-pub nodes-read : (symbols : List ℕ) (t : List Node) → length t < 65536 → ((k : ℕ) → k < length t → Low (node t k)) → nodesOf (problemBytes symbols t) ≡ t
-nodes-read symbols t h f =
-    let s = problemBytes symbols t in
-    let front : List ℕ = 69 ∷ 81 ∷ 80 ∷ 1 ∷ 0 ∷ length symbols ∷ length t % 256 ∷ (length t / 256) % 256 ∷ symbols in
-    let count : nodeCount s ≡ length t = two-back (length t) h in
-    let place : 8 + length symbols ≡ length front + 0 = omega arith in
-    ap (nodesAt s (8 + length symbols)) count
-    ∙ nodes-after front (tableBytes t) 0 (8 + length symbols) (length t) place
-    ∙ ap (λ (xs : List ℕ). nodesAt xs 0 (length t)) (sym (append-nil (tableBytes t)))
-    ∙ nodes-back t f []
-
--- the length of a problem: its header, its symbols and its nodes
-pub problem-length : (symbols : List ℕ) (t : List Node) → length (problemBytes symbols t) ≡ 8 + length symbols + 8 * length t
-problem-length symbols t = let x = length-append symbols (tableBytes t) in let y = length-tableBytes t in omega arith
 
 pub script-length : (s : Script) → length (problemOfScript s) ≡ 8 + length (bytesOfScript s) + 8 * length (nodesOfScript s)
 unfolding problemOfScript
