@@ -43,6 +43,7 @@ use Rattle.definitions.specs.Problem.Ops.{
 use Rattle.definitions.specs.Problem.Check.{symbolCount, nodeCount, symbolsOf, nodesOf}
 use Rattle.theorems.proofs.Accepted.{length-nodesAt}
 use Rattle.theorems.proofs.Laws.Tests.{and-left, and-right}
+use Rattle.problem.specs.declared.head.Header.{Header}
 use Rattle.problem.specs.Shape.{Shaped}
 use Rattle.problem.specs.Wanted.{sortWanted, wantedOf, slotRight}
 
@@ -65,47 +66,47 @@ field-nodeAt s i (suc (suc zero)) h = ap (twoAt s) (omega arith)
 field-nodeAt s i (suc (suc (suc j))) h = absurd (omega arith)
 
 -- after the header, node k stands at 8 + symbols + 8 * k, and symbol k at 8 + k
-module _ {s : List ℕ} {symbols nodes : ℕ} (w : Shaped s symbols nodes) where
-  pub length-nodesOf : length (nodesOf s) ≡ nodes
+module _ {s : List ℕ} {header : Header} (w : Shaped s header) where
+  pub length-nodesOf : length (nodesOf s) ≡ header .nodes
   length-nodesOf = length-nodesAt s (8 + symbolCount s) (nodeCount s) ∙ sym (w .nodes-are)
 
-  pub node-nodesOf : (k : ℕ) → k < nodes → node (nodesOf s) k ≡ nodeAt s (8 + symbols + 8 * k)
+  pub node-nodesOf : (k : ℕ) → k < header .nodes → node (nodesOf s) k ≡ nodeAt s (8 + header .symbols + 8 * k)
   node-nodesOf k h =
       node-nodesAt s (8 + symbolCount s) (nodeCount s) k (omega (arith, w .nodes-are))
       ∙ ap (nodeAt s) (omega (arith, w .symbols-are))
 
-  pub node-stands : (k at : ℕ) → at ≡ 8 + symbols + 8 * k → k < nodes → node (nodesOf s) k ≡ nodeAt s at
+  pub node-stands : (k at : ℕ) → at ≡ 8 + header .symbols + 8 * k → k < header .nodes → node (nodesOf s) k ≡ nodeAt s at
   node-stands k at e h = node-nodesOf k h ∙ ap (nodeAt s) (sym e)
 
-  pub field-stands : (k j at : ℕ) → at ≡ 8 + symbols + 8 * k → k < nodes → j < 3
+  pub field-stands : (k j at : ℕ) → at ≡ 8 + header .symbols + 8 * k → k < header .nodes → j < 3
       → getD (fieldsOf (node (nodesOf s) k)) j 0 ≡ twoAt s (at + 2 + 2 * j)
   field-stands k j at e h l = ap (λ (n : Node). getD (fieldsOf n) j 0) (node-stands k at e h) ∙ field-nodeAt s at j l
 
-  pub take-nodesOf : (k : ℕ) → k ≤ nodes → take k (nodesOf s) ≡ nodesAt s (8 + symbols) k
+  pub take-nodesOf : (k : ℕ) → k ≤ header .nodes → take k (nodesOf s) ≡ nodesAt s (8 + header .symbols) k
   take-nodesOf k h =
       take-nodesAt s (8 + symbolCount s) (nodeCount s) k (omega (arith, w .nodes-are))
       ∙ ap (λ (i : ℕ). nodesAt s i k) (omega (arith, w .symbols-are))
 
-  pub length-symbolsOf : length (symbolsOf s) ≡ symbols
+  pub length-symbolsOf : length (symbolsOf s) ≡ header .symbols
   length-symbolsOf = length-take-le (symbolCount s) (drop 8 s) (simp length-drop (omega arith)) ∙ sym (w .symbols-are)
 
-  pub symbol-symbolsOf : (k : ℕ) → k < symbols → getD (symbolsOf s) k 0 ≡ byteAt s (8 + k)
+  pub symbol-symbolsOf : (k : ℕ) → k < header .symbols → getD (symbolsOf s) k 0 ≡ byteAt s (8 + k)
   symbol-symbolsOf k h = getD-take (symbolCount s) (drop 8 s) k 0 (omega arith) ∙ getD-drop 8 s k 0
 
   -- past the last symbol the arity is 0
-  pub arity-past : (k : ℕ) → symbols ≤ k → arity (symbolsOf s) k ≡ 0
+  pub arity-past : (k : ℕ) → header .symbols ≤ k → arity (symbolsOf s) k ≡ 0
   arity-past k h =
       let l : length (symbolsOf s) ≤ k = omega (arith, length-symbolsOf) in
       ap (λ (byte : ℕ). byte % 16) (List·getD-eq-default (symbolsOf s) 0 l)
 
   -- a symbol is known and its byte passes a test
   pub known-symbol : (f : ℕ → Bool) (k : ℕ)
-      → ltb k (length (symbolsOf s)) && f (getD (symbolsOf s) k 0) ≡ ltb k symbols && f (byteAt s (8 + k))
+      → ltb k (length (symbolsOf s)) && f (getD (symbolsOf s) k 0) ≡ ltb k (header .symbols) && f (byteAt s (8 + k))
   known-symbol f k =
-      ap (λ (n : ℕ). ltb k n && f (getD (symbolsOf s) k 0)) length-symbolsOf ∙ go (ltb k symbols) refl
+      ap (λ (n : ℕ). ltb k n && f (getD (symbolsOf s) k 0)) length-symbolsOf ∙ go (ltb k (header .symbols)) refl
     where
-      go : (b : Bool) → ltb k symbols ≡ b → b && f (getD (symbolsOf s) k 0) ≡ b && f (byteAt s (8 + k))
-      go true e = ap f (symbol-symbolsOf k (ltb-true k symbols e))
+      go : (b : Bool) → ltb k (header .symbols) ≡ b → b && f (getD (symbolsOf s) k 0) ≡ b && f (byteAt s (8 + k))
+      go true e = ap f (symbol-symbolsOf k (ltb-true k (header .symbols) e))
       go false e = refl
 
 -- the ops of terms are 0 and 1

@@ -1,3 +1,5 @@
+pub mod Lays
+pub mod Nodes
 pub mod Shape
 pub mod Stages
 pub mod Wanted

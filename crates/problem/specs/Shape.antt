@@ -4,11 +4,12 @@ use Prim.Native.Nat.{ℕ, _+_, _*_, _≤_}
 use mathlib.Core.List.{List}
 use lib.ListN.{length}
 use Rattle.definitions.specs.Problem.Check.{symbolCount, nodeCount}
+use Rattle.problem.specs.declared.head.Header.{Header}
 
-pub record Shaped (s : List ℕ) (symbols nodes : ℕ) : Type 0 where
-  pub symbols-are : symbols ≡ symbolCount s
-  pub nodes-are : nodes ≡ nodeCount s
-  pub few-symbols : symbols ≤ 32
-  pub some-nodes : 1 ≤ nodes
-  pub few-nodes : nodes ≤ 256
-  pub whole : length s ≡ 8 + symbols + 8 * nodes
+pub record Shaped (s : List ℕ) (h : Header) : Type 0 where
+  pub symbols-are : h .symbols ≡ symbolCount s
+  pub nodes-are : h .nodes ≡ nodeCount s
+  pub few-symbols : h .symbols ≤ 32
+  pub some-nodes : 1 ≤ h .nodes
+  pub few-nodes : h .nodes ≤ 256
+  pub whole : length s ≡ 8 + h .symbols + 8 * h .nodes

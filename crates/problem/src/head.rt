@@ -1,12 +1,24 @@
 // The header: conditions 1 to 5.
+ghost use mathlib.Core.Path.{_≡_};
+ghost use Prim.Native.Nat.{_+_, _*_, _≤_};
+ghost use lib.ListN.{length};
+ghost use Rattle.definitions.specs.Problem.Asked.{lastNode};
+ghost use Rattle.theorems.proofs.Accepted.{Accepted};
+ghost use Rattle.problem.specs.Shape.{Shaped};
 ghost use Rattle.problem.specs.Stages.{HeadRead};
 use crate::bytes::two_at;
 use crate::bytes::wide;
 use definitions::Refusal;
 
-// What the header says, or what refuses it.
+// What the header says: how many symbols and how many nodes.
+pub struct Header {
+    pub symbols: usize,
+    pub nodes: usize,
+}
+
+// The header, or what refuses it.
 pub enum Head {
-    Fine { symbols: usize, nodes: usize },
+    Fine(Header),
     Bad(Refusal),
 }
 
@@ -44,5 +56,40 @@ pub fn read_head(s: &[u8]) -> Head
     if s.len() != 8 + symbols + 8 * nodes {
         return Head::Bad(Refusal::BadLength);
     }
-    Head::Fine { symbols, nodes }
+    Head::Fine(Header { symbols, nodes })
+}
+
+// The header of a problem that is accepted.
+pub fn header_of(s: &[u8]) -> Header
+    requires { ⌜ Accepted (now s) ⌝ }
+    ensures { λ r. ⌜ Shaped (now (s .entry)) r ⌝ }
+{
+    Header {
+        symbols: wide(s[5]),
+        nodes: two_at(s, 6),
+    }
+}
+
+impl Header {
+    // How long a problem with this header is.
+    pub fn size(self) -> usize
+        requires { ⌜ (self .symbols ≤ 32) × (self .nodes ≤ 256) ⌝ }
+        ensures { λ r. ⌜ r ≡ 8 + self .symbols + 8 * self .nodes ⌝ }
+    {
+        8 + self.symbols + 8 * self.nodes
+    }
+}
+
+// The last node of a problem, which the night run and solver text name.
+pub fn last_node(s: &[u8]) -> usize
+    ensures { λ r. ⌜ (8 ≤ length (now (s .entry)) → r ≡ lastNode (now (s .entry))) ⌝ }
+{
+    if s.len() < 8 {
+        return 0;
+    }
+    let nodes = two_at(s, 6);
+    if nodes == 0 {
+        return 0;
+    }
+    nodes - 1
 }

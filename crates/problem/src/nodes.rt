@@ -4,7 +4,7 @@ ghost use Prim.Native.Nat.{_+_, _*_, _<_, _≤_};
 ghost use mathlib.Core.List.{[]};
 ghost use lib.ListN.{getD, take};
 ghost use Rattle.definitions.specs.Problem.Node.{node};
-ghost use Rattle.definitions.specs.Problem.Ops.{opOf, sortOf, sameSort, term, arity, nodeRight, symbolRight, fieldsOf};
+ghost use Rattle.definitions.specs.Problem.Ops.{opOf, sortOf, sameSort, term, operandSorts, arity, countOf, nodeRight, symbolRight, fieldsOf};
 ghost use Rattle.definitions.specs.Problem.Check.{symbolsOf, nodesOf, firstWrong};
 ghost use Rattle.problem.specs.Shape.{Shaped};
 ghost use Rattle.problem.specs.Stages.{foundOf};
@@ -12,41 +12,46 @@ ghost use Rattle.problem.specs.Wanted.{wantedRead, wantedOf, slotRight};
 use crate::bytes::Found;
 use crate::bytes::two_at;
 use crate::bytes::wide;
+use crate::head::Header;
 
 // Where node k stands.
-pub fn node_at(symbols: usize, k: usize) -> usize
-    requires { ⌜ (symbols ≤ 32) × (k ≤ 256) ⌝ }
-    ensures { λ r. ⌜ r ≡ 8 + symbols + 8 * k ⌝ }
+pub fn node_at(header: Header, k: usize) -> usize
+    requires { ⌜ (header .symbols ≤ 32) × (k ≤ 256) ⌝ }
+    ensures { λ r. ⌜ r ≡ 8 + header .symbols + 8 * k ⌝ }
 {
-    8 + symbols + 8 * k
+    8 + header.symbols + 8 * k
 }
 
 // The sort of a node is read off its op: ops 0 and 1 are terms.
-pub fn is_term(s: &[u8], symbols: usize, nodes: usize, k: usize) -> bool
-    requires { ⌜ Shaped (now s) symbols nodes × (k < nodes) ⌝ }
+pub fn is_term(s: &[u8], header: Header, k: usize) -> bool
+    requires { ⌜ Shaped (now s) header × (k < header .nodes) ⌝ }
     ensures { λ r. ⌜ r ≡ sameSort (sortOf (opOf (node (nodesOf (now (s .entry))) k .op))) term ⌝ }
 {
-    s[node_at(symbols, k)] < 2
+    s[node_at(header, k)] < 2
 }
 
 // The arity of a symbol; 0 past the last.
-pub fn arity_of(s: &[u8], symbols: usize, nodes: usize, k: usize) -> usize
-    requires { ⌜ Shaped (now s) symbols nodes ⌝ }
+pub fn arity_of(s: &[u8], header: Header, k: usize) -> usize
+    requires { ⌜ Shaped (now s) header ⌝ }
     ensures { λ r. ⌜ (r ≡ arity (symbolsOf (now (s .entry))) k) × (r < 16) ⌝ }
 {
-    if k < symbols { wide(s[8 + k]) % 16 } else { 0 }
+    if k < header.symbols {
+        wide(s[8 + k]) % 16
+    } else {
+        0
+    }
 }
 
 // The symbol field of a node of an op is right: a known symbol of the op's kind, and 0 where the op has none.
-fn symbol_right(s: &[u8], symbols: usize, nodes: usize, op: u8, k: usize) -> bool
-    requires { ⌜ Shaped (now s) symbols nodes ⌝ }
+fn symbol_right(s: &[u8], header: Header, op: u8, k: usize) -> bool
+    requires { ⌜ Shaped (now s) header ⌝ }
     ensures { λ r. ⌜ r ≡ symbolRight (symbolsOf (now (s .entry))) (opOf op) k ⌝ }
 {
     if op == 0 {
-        return k < symbols && s[8 + k] < 4;
+        return k < header.symbols && s[8 + k] < 4;
     }
     if op == 6 {
-        return k < symbols && (16 <= s[8 + k] && s[8 + k] < 20);
+        return k < header.symbols && (16 <= s[8 + k] && s[8 + k] < 20);
     }
     op < 10 && k == 0
 }
@@ -98,48 +103,61 @@ pub fn wants(op: u8, arity: usize, j: usize) -> Wanted
     }
 }
 
+// How many operand fields a node of an op uses, with a symbol of this arity.
+pub fn in_use(op: u8, arity: usize) -> usize
+    ensures { λ r. ⌜ r ≡ countOf (operandSorts (opOf op) arity) ⌝ }
+{
+    match op {
+        0 | 6 => arity,
+        1 | 9 => 3,
+        2 | 4 | 5 => 2,
+        3 => 1,
+        _ => 0,
+    }
+}
+
 // Operand field j of node k is right for what is wanted there.
-fn operand_right(s: &[u8], symbols: usize, nodes: usize, k: usize, j: usize, want: Wanted) -> bool
-    requires { ⌜ Shaped (now s) symbols nodes × (k < nodes) × (j < 3) ⌝ }
+fn operand_right(s: &[u8], header: Header, k: usize, j: usize, want: Wanted) -> bool
+    requires { ⌜ Shaped (now s) header × (k < header .nodes) × (j < 3) ⌝ }
     ensures { λ r. ⌜ r ≡ slotRight (take k (nodesOf (now (s .entry)))) (wantedRead want) (getD (fieldsOf (node (nodesOf (now (s .entry))) k)) j 0) ⌝ }
 {
-    let operand = two_at(s, node_at(symbols, k) + 2 + 2 * j);
+    let operand = two_at(s, node_at(header, k) + 2 + 2 * j);
     match want {
         Wanted::Unused => operand == 0,
-        Wanted::Term => operand < k && is_term(s, symbols, nodes, operand),
-        Wanted::Formula => operand < k && !is_term(s, symbols, nodes, operand),
+        Wanted::Term => operand < k && is_term(s, header, operand),
+        Wanted::Formula => operand < k && !is_term(s, header, operand),
     }
 }
 
 // Node k is right after those before it.
-pub fn node_right(s: &[u8], symbols: usize, nodes: usize, k: usize) -> bool
-    requires { ⌜ Shaped (now s) symbols nodes × (k < nodes) ⌝ }
+pub fn node_right(s: &[u8], header: Header, k: usize) -> bool
+    requires { ⌜ Shaped (now s) header × (k < header .nodes) ⌝ }
     ensures { λ r. ⌜ r ≡ nodeRight (symbolsOf (now (s .entry))) (take k (nodesOf (now (s .entry)))) (node (nodesOf (now (s .entry))) k) ⌝ }
 {
-    let at = node_at(symbols, k);
+    let at = node_at(header, k);
     let op = s[at];
     let symbol = wide(s[at + 1]);
-    if !symbol_right(s, symbols, nodes, op, symbol) {
+    if !symbol_right(s, header, op, symbol) {
         return false;
     }
-    let arity = arity_of(s, symbols, nodes, symbol);
-    if !operand_right(s, symbols, nodes, k, 0, wants(op, arity, 0)) {
+    let arity = arity_of(s, header, symbol);
+    if !operand_right(s, header, k, 0, wants(op, arity, 0)) {
         return false;
     }
-    if !operand_right(s, symbols, nodes, k, 1, wants(op, arity, 1)) {
+    if !operand_right(s, header, k, 1, wants(op, arity, 1)) {
         return false;
     }
-    operand_right(s, symbols, nodes, k, 2, wants(op, arity, 2))
+    operand_right(s, header, k, 2, wants(op, arity, 2))
 }
 
 // The number of the first node that is not right.
-pub fn first_wrong(s: &[u8], symbols: usize, nodes: usize) -> Found
-    requires { ⌜ Shaped (now s) symbols nodes ⌝ }
+pub fn first_wrong(s: &[u8], header: Header) -> Found
+    requires { ⌜ Shaped (now s) header ⌝ }
     ensures { λ r. ⌜ foundOf r ≡ firstWrong (symbolsOf (now (s .entry))) [] (nodesOf (now (s .entry))) ⌝ }
 {
     let mut k = 0;
-    while k < nodes {
-        if !node_right(s, symbols, nodes, k) {
+    while k < header.nodes {
+        if !node_right(s, header, k) {
             return Found::At(k);
         }
         k += 1;

@@ -1,6 +1,6 @@
 // Repeats: the earliest node with the same op, symbol and operand numbers; and how many applications are distinct.
 ghost use mathlib.Core.Path.{_≡_};
-ghost use Prim.Native.Nat.{_+_, _<_};
+ghost use Prim.Native.Nat.{_<_};
 ghost use mathlib.Core.List.{[]};
 ghost use lib.ListN.{length, take};
 ghost use Rattle.definitions.specs.Problem.Node.{node, same};
@@ -9,15 +9,16 @@ ghost use Rattle.problem.specs.Shape.{Shaped};
 ghost use Rattle.problem.specs.Stages.{foundOf, oneSymbol, firstSame};
 use crate::bytes::Found;
 use crate::bytes::two_at;
+use crate::head::Header;
 use crate::nodes::node_at;
 
 // Two nodes have the same op and symbol.
-pub fn same_symbol(s: &[u8], symbols: usize, nodes: usize, j: usize, k: usize) -> bool
-    requires { ⌜ Shaped (now s) symbols nodes × (j < nodes) × (k < nodes) ⌝ }
+pub fn same_symbol(s: &[u8], header: Header, j: usize, k: usize) -> bool
+    requires { ⌜ Shaped (now s) header × (j < header .nodes) × (k < header .nodes) ⌝ }
     ensures { λ r. ⌜ r ≡ oneSymbol (node (nodesOf (now (s .entry))) j) (node (nodesOf (now (s .entry))) k) ⌝ }
 {
-    let a = node_at(symbols, j);
-    let b = node_at(symbols, k);
+    let a = node_at(header, j);
+    let b = node_at(header, k);
     if s[a] != s[b] {
         return false;
     }
@@ -25,15 +26,15 @@ pub fn same_symbol(s: &[u8], symbols: usize, nodes: usize, j: usize, k: usize) -
 }
 
 // Two nodes have the same op, symbol and operand numbers.
-pub fn same_nodes(s: &[u8], symbols: usize, nodes: usize, j: usize, k: usize) -> bool
-    requires { ⌜ Shaped (now s) symbols nodes × (j < nodes) × (k < nodes) ⌝ }
+pub fn same_nodes(s: &[u8], header: Header, j: usize, k: usize) -> bool
+    requires { ⌜ Shaped (now s) header × (j < header .nodes) × (k < header .nodes) ⌝ }
     ensures { λ r. ⌜ r ≡ same (node (nodesOf (now (s .entry))) j) (node (nodesOf (now (s .entry))) k) ⌝ }
 {
-    if !same_symbol(s, symbols, nodes, j, k) {
+    if !same_symbol(s, header, j, k) {
         return false;
     }
-    let a = node_at(symbols, j);
-    let b = node_at(symbols, k);
+    let a = node_at(header, j);
+    let b = node_at(header, k);
     if two_at(s, a + 2) != two_at(s, b + 2) {
         return false;
     }
@@ -44,8 +45,8 @@ pub fn same_nodes(s: &[u8], symbols: usize, nodes: usize, j: usize, k: usize) ->
 }
 
 // The number of the earliest node before node k that is the same.
-pub fn earliest(s: &[u8], symbols: usize, nodes: usize, k: usize) -> Found
-    requires { ⌜ Shaped (now s) symbols nodes × (k < nodes) ⌝ }
+pub fn earliest(s: &[u8], header: Header, k: usize) -> Found
+    requires { ⌜ Shaped (now s) header × (k < header .nodes) ⌝ }
     ensures { λ r. ⌜ foundOf r ≡ firstSame (node (nodesOf (now (s .entry))) k) (take k (nodesOf (now (s .entry)))) ⌝ }
 {
     let mut j = 0;
@@ -53,7 +54,7 @@ pub fn earliest(s: &[u8], symbols: usize, nodes: usize, k: usize) -> Found
         if j == k {
             break 'scan Found::Nothing;
         }
-        if same_nodes(s, symbols, nodes, k, j) {
+        if same_nodes(s, header, k, j) {
             break 'scan Found::At(j);
         }
         j += 1;
@@ -62,15 +63,15 @@ pub fn earliest(s: &[u8], symbols: usize, nodes: usize, k: usize) -> Found
 }
 
 // How many applications of an op are distinct: no earlier node is the same.
-pub fn distinct(s: &[u8], symbols: usize, nodes: usize, op: u8) -> usize
-    requires { ⌜ Shaped (now s) symbols nodes ⌝ }
+pub fn distinct(s: &[u8], header: Header, op: u8) -> usize
+    requires { ⌜ Shaped (now s) header ⌝ }
     ensures { λ r. ⌜ r ≡ length (Rattle.definitions.specs.Problem.Check.distinct op [] (nodesOf (now (s .entry)))) ⌝ }
 {
     let mut count = 0;
     let mut k = 0;
-    while k < nodes {
-        if s[node_at(symbols, k)] == op {
-            if let Found::Nothing = earliest(s, symbols, nodes, k) {
+    while k < header.nodes {
+        if s[node_at(header, k)] == op {
+            if let Found::Nothing = earliest(s, header, k) {
                 count += 1;
             }
         }

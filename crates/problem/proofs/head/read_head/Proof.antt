@@ -13,11 +13,11 @@ use borrow.Author.Needs.{needs}
 use borrow.Author.Tests.{eq-eqb, ne-eqb, lt-ltb, le-ltb}
 use Rattle.definitions.specs.Bytes.{byteAt, twoAt, EQP}
 use Rattle.definitions.specs.Problem.Check.{symbolCount, nodeCount, stands, refuse}
-use Rattle.definitions.specs.Operations.Answers.{refused, checkAnswer}
 use Rattle.theorems.proofs.Laws.Tests.{or-left, or-right}
+use Rattle.problem.specs.declared.head.Header.{Header}
 use Rattle.problem.specs.Shape.{Shaped}
 use Rattle.problem.specs.Stages.{Passed}
-use Rattle.problem.proofs.Stages.{refused-if, passed-if}
+use Rattle.problem.proofs.Stages.{First, refused-if, passed-if}
 use Rattle.problem.proofs.head.read_head.Statement.{statement}
 use Rattle.problem.proofs.head.read_head.Tie as tie
 
@@ -60,13 +60,13 @@ miscounted s (inr (inr h)) = or-right (ltb 32 (symbolCount s) || eqb (nodeCount 
 
 -- conditions 1 to 5 in order: what refuses, and what passes
 module _ (s : List ℕ) where
-  too-short : length s < 8 → refused (refuse 1 0) ≡ checkAnswer s
+  too-short : length s < 8 → First s 1 0
   too-short h = refused-if s 0 _ refl tt (lt-ltb _ _ h)
 
   passed-1 : 8 ≤ length s → Passed 1 s
   passed-1 h = passed-if s 0 _ refl tt (le-ltb _ _ h)
 
-  wrong-letter : 8 ≤ length s → (k : ℕ) → k < 3 → (byteAt s k ≡ getD EQP k 0 → ⊥) → refused (refuse 2 0) ≡ checkAnswer s
+  wrong-letter : 8 ≤ length s → (k : ℕ) → k < 3 → (byteAt s k ≡ getD EQP k 0 → ⊥) → First s 2 0
   wrong-letter l k h n =
       refused-if s 1 _ refl (passed-1 l) (ap not (other-byte s EQP 0 k h (λ e. n (ap (byteAt s) (omega arith) ∙ e))))
 
@@ -75,13 +75,13 @@ module _ (s : List ℕ) where
       passed-if s 1 (not (stands s 0 EQP)) refl (passed-1 (l .long))
       (simp (eq-eqb _ _ (l .e), eq-eqb _ _ (l .q), eq-eqb _ _ (l .p)))
 
-  wrong-version : Lettered s → (twoAt s 3 ≡ 1 → ⊥) → refused (refuse 3 0) ≡ checkAnswer s
+  wrong-version : Lettered s → (twoAt s 3 ≡ 1 → ⊥) → First s 3 0
   wrong-version l n = refused-if s 2 _ refl (passed-2 l) (ap not (ne-eqb _ _ n))
 
   passed-3 : Versioned s → Passed 3 s
   passed-3 v = passed-if s 2 _ refl (passed-2 (v .letters)) (ap not (eq-eqb _ _ (v .version)))
 
-  wrong-counts : Versioned s → Miscounted s → refused (refuse 4 0) ≡ checkAnswer s
+  wrong-counts : Versioned s → Miscounted s → First s 4 0
   wrong-counts v m = refused-if s 3 _ refl (passed-3 v) (miscounted s m)
 
   passed-4 : Counted s → Passed 4 s
@@ -89,10 +89,10 @@ module _ (s : List ℕ) where
       passed-if s 3 _ refl (passed-3 (k .versioned))
       (ap₂ _||_ (ap₂ _||_ (le-ltb _ _ (k .few-symbols)) (ne-eqb _ _ (k .some-nodes))) (le-ltb _ _ (k .few-nodes)))
 
-  wrong-length : Counted s → (length s ≡ 8 + symbolCount s + 8 * nodeCount s → ⊥) → refused (refuse 5 0) ≡ checkAnswer s
+  wrong-length : Counted s → (length s ≡ 8 + symbolCount s + 8 * nodeCount s → ⊥) → First s 5 0
   wrong-length k n = refused-if s 4 _ refl (passed-4 k) (ap not (ne-eqb _ _ n))
 
-  fine : {symbols nodes : ℕ} → Counted s → Shaped s symbols nodes → Shaped s symbols nodes × Passed 5 s
+  fine : {h : Header} → Counted s → Shaped s h → Shaped s h × Passed 5 s
   fine k h =
       let whole : length s ≡ 8 + symbolCount s + 8 * nodeCount s = omega arith in
       (h, passed-if s 4 _ refl (passed-4 k) (ap not (eq-eqb _ _ whole)))

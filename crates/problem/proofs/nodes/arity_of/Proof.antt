@@ -18,12 +18,12 @@ wide-requires c κs = search needs
 
 returns : tie.Need-returns
 returns c =
-    let start = c .before .before .before .before in
+    let start = c .before .before .before .before .before in
     let byte = symbol-symbolsOf (start .pre) (start .args .k) (omega arith) in
     omega arith
 
 returns-2 : tie.Need-returns-2
-returns-2 c = (sym (arity-past (c .before .before .pre) _ (omega arith)), omega arith)
+returns-2 c = (sym (arity-past (c .before .before .before .pre) _ (omega arith)), omega arith)
 
 pub arity-of-spec : {M : Type 1} → statement M
 arity-of-spec =

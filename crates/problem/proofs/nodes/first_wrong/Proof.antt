@@ -15,11 +15,11 @@ use Rattle.problem.proofs.nodes.first_wrong.Statement.{statement}
 use Rattle.problem.proofs.nodes.first_wrong.Tie as tie
 
 abbrev Inv-loop : tie.InvT-loop
-Inv-loop s symbols nodes k₀ k =
-    (k ≤ nodes) × (wrongFrom (symbolsOf s) (nodesOf s) k ≡ firstWrong (symbolsOf s) [] (nodesOf s))
+Inv-loop s header k₀ k =
+    (k ≤ header .nodes) × (wrongFrom (symbolsOf s) (nodesOf s) k ≡ firstWrong (symbolsOf s) [] (nodesOf s))
 
 abbrev μ-loop : tie.MeasureT-loop
-μ-loop s symbols nodes k₀ k = nodes - k
+μ-loop s header k₀ k = header .nodes - k
 
 loop-holds : tie.Need-loop-holds Inv-loop μ-loop
 loop-holds c = (omega arith, refl)
@@ -35,15 +35,15 @@ module _ (c : tie.At-loop Inv-loop μ-loop) where
   abbrev table : List Node
   table = nodesOf (c .before .before .args .s .now)
 
-  count : length table ≡ c .before .before .args .nodes
+  count : length table ≡ c .before .before .args .header .nodes
   count = length-nodesOf (c .before .before .pre)
 
 returns : tie.Need-returns Inv-loop μ-loop
 returns c =
-    let head = c .before .before .before in
+    let head = c .before .before .before .before in
     sym
     (wrong-here (symbolBytes head) (table head) (head .loop .k) (omega (arith, count head))
-    (rw (← c .before .node-right .ensures) (not-true _ (c .if1 .taken))))
+    (rw (← c .before .node-right .ensures) (not-true _ (c .if2 .taken))))
     ∙ head .loop .inv .1
 
 add-k : tie.Need-add-k Inv-loop μ-loop
@@ -54,15 +54,15 @@ loop-less c = omega arith
 
 loop-again : tie.Need-loop-again Inv-loop μ-loop
 loop-again c =
-    let head = c .before .before .before in
+    let head = c .before .before .before .before in
     let later =
     wrong-later (symbolBytes head) (table head) (head .loop .k) (omega (arith, count head))
-    (rw (← c .before .node-right .ensures) (not-false _ (c .if1 .left))) in
+    (rw (← c .before .node-right .ensures) (not-false _ (c .if2 .left))) in
     (omega arith, sym later ∙ head .loop .inv .1)
 
 returns-2 : tie.Need-returns-2 Inv-loop μ-loop
 returns-2 c =
-    let head = c .before in
+    let head = c .before .before in
     sym (wrong-nowhere (symbolBytes head) (table head) (head .loop .k) (omega (arith, count head))) ∙ head .loop .inv .1
 
 pub first-wrong-spec : {M : Type 1} → statement M

@@ -16,11 +16,13 @@ shared-slice-read-result c = search needs
 
 returns : tie.Need-returns
 returns c =
-    rw (c .before .before .if1 .taken, known-symbol (c .before .before .before .pre) isFunction)
+    rw (c .before .before .before .if1 .taken, known-symbol (c .before .before .before .before .pre) isFunction)
     (simp (lt-ltb _ _ (c .before .if2 .taken)))
 
 returns-2 : tie.Need-returns-2
-returns-2 c = rw (c .before .if1 .taken, known-symbol (c .before .before .pre) isFunction) (simp (le-ltb _ _ (c .if2 .left)))
+returns-2 c =
+    rw (c .before .before .if1 .taken, known-symbol (c .before .before .before .pre) isFunction)
+    (simp (le-ltb _ _ (c .if2 .left)))
 
 add-if5 : tie.Need-add-if5
 add-if5 c = search needs
@@ -37,18 +39,19 @@ shared-slice-read-result-2 c = search needs
 returns-3 : tie.Need-returns-3
 returns-3 c =
     let known = c .before .before .before in
-    rw (known .before .if3 .taken, known-symbol (known .before .before .before .pre) isPredicate)
+    rw (known .before .before .if3 .taken, known-symbol (known .before .before .before .before .pre) isPredicate)
     (simp (lt-ltb _ _ (known .if4 .taken), le-leb _ _ (c .before .if5 .taken)))
 
 returns-4 : tie.Need-returns-4
 returns-4 c =
     let known = c .before .before in
-    rw (known .before .if3 .taken, known-symbol (known .before .before .before .pre) isPredicate)
+    rw (known .before .before .if3 .taken, known-symbol (known .before .before .before .before .pre) isPredicate)
     (simp (lt-ltb _ _ (known .if4 .taken), lt-leb _ _ (c .if5 .left)))
 
 returns-5 : tie.Need-returns-5
 returns-5 c =
-    rw (c .before .if3 .taken, known-symbol (c .before .before .before .pre) isPredicate) (simp (le-ltb _ _ (c .if4 .left)))
+    rw (c .before .before .if3 .taken, known-symbol (c .before .before .before .before .pre) isPredicate)
+    (simp (le-ltb _ _ (c .if4 .left)))
 
 returns-6 : tie.Need-returns-6
 returns-6 c =

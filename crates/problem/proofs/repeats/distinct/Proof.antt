@@ -17,11 +17,11 @@ use Rattle.problem.proofs.repeats.distinct.Statement.{statement}
 use Rattle.problem.proofs.repeats.distinct.Tie as tie
 
 abbrev Inv-loop : tie.InvT-loop
-Inv-loop s symbols nodes op count₀ k₀ count k =
-    (k ≤ nodes) × (count ≤ k) × (count + distinctFrom op (nodesOf s) k ≡ length (distinct op [] (nodesOf s)))
+Inv-loop s header op count₀ k₀ count k =
+    (k ≤ header .nodes) × (count ≤ k) × (count + distinctFrom op (nodesOf s) k ≡ length (distinct op [] (nodesOf s)))
 
 abbrev μ-loop : tie.MeasureT-loop
-μ-loop s symbols nodes op count₀ k₀ count k = nodes - k
+μ-loop s header op count₀ k₀ count k = header .nodes - k
 
 loop-holds : tie.Need-loop-holds Inv-loop μ-loop
 loop-holds c = omega arith
@@ -29,8 +29,8 @@ loop-holds c = omega arith
 node-at-requires : tie.Need-node-at-requires Inv-loop μ-loop
 node-at-requires c κs = search needs
 
-shared-slice-read-if1 : tie.Need-shared-slice-read-if1 Inv-loop μ-loop
-shared-slice-read-if1 c = omega arith
+shared-slice-read-if2 : tie.Need-shared-slice-read-if2 Inv-loop μ-loop
+shared-slice-read-if2 c = omega arith
 
 earliest-requires : tie.Need-earliest-requires Inv-loop μ-loop
 earliest-requires c κs = search needs
@@ -58,13 +58,13 @@ module _ (c : tie.At-loop Inv-loop μ-loop) where
   abbrev table : List Node
   table = nodesOf (c .before .before .args .s .now)
 
-  count-nodes : length table ≡ c .before .before .args .nodes
+  count-nodes : length table ≡ c .before .before .args .header .nodes
   count-nodes = length-nodesOf (c .before .before .pre)
 
 -- in a turn: node k is one of them, and its op is read
 module _ (c : tie.After-shared-slice-known2 Inv-loop μ-loop) where
   abbrev head : tie.At-loop Inv-loop μ-loop
-  head = c .before .before .before
+  head = c .before .before .before .before
 
   k-among : head .loop .k < length (table head)
   k-among = omega (arith, count-nodes head)
@@ -72,7 +72,7 @@ module _ (c : tie.After-shared-slice-known2 Inv-loop μ-loop) where
   op-read : node (table head) (head .loop .k) .op ≡ byteAt (head .before .before .args .s .now) (c .before .node-at .result)
   op-read =
       ap (λ (n : Node). n .op)
-      (node-stands (head .before .before .pre) _ _ (c .before .node-at .ensures) (c .before .before .loop-test .taken))
+      (node-stands (head .before .before .pre) _ _ (c .before .node-at .ensures) (c .before .before .if1 .taken))
 
 loop-again : tie.Need-loop-again Inv-loop μ-loop
 loop-again c =
@@ -92,11 +92,11 @@ loop-again c =
     (λ w.
     let left = distinct-other (op at) (table at) k h (λ e. w .0 .left (sym (op-read (c .before)) ∙ e)) in
     omega arith))
-    (c .if1 .came)
+    (c .if2 .came)
 
 returns : tie.Need-returns Inv-loop μ-loop
 returns c =
-    let at = c .before in
+    let at = c .before .before in
     let past : length (table at) ≤ at .loop .k = omega (arith, count-nodes at) in
     omega (arith, distinct-end (op at) (table at) (at .loop .k) past)
 
@@ -108,7 +108,7 @@ distinct-spec =
     μ-loop
     loop-holds
     node-at-requires
-    shared-slice-read-if1
+    shared-slice-read-if2
     earliest-requires
     enum-told
     add-count

@@ -15,11 +15,11 @@ use Rattle.problem.proofs.repeats.earliest.Statement.{statement}
 use Rattle.problem.proofs.repeats.earliest.Tie as tie
 
 abbrev Inv-scan : tie.InvT-scan
-Inv-scan s symbols nodes k j₀ j =
+Inv-scan s header k j₀ j =
     (j ≤ k) × (sameFrom (nodesOf s) k j ≡ firstSame (node (nodesOf s) k) (take k (nodesOf s)))
 
 abbrev μ-scan : tie.MeasureT-scan
-μ-scan s symbols nodes k j₀ j = k - j
+μ-scan s header k j₀ j = k - j
 
 scan-holds : tie.Need-scan-holds Inv-scan μ-scan
 scan-holds c = (omega arith, refl)

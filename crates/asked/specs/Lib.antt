@@ -1,0 +1,3 @@
+pub mod Reached
+pub mod Trimming
+pub mod Asking
