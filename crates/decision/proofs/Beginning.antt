@@ -12,6 +12,7 @@ use Rattle.definitions.specs.Ranges.{sizes}
 use Rattle.definitions.specs.Places.{first}
 use Rattle.theorems.proofs.Laws.Tests.{split}
 use Rattle.theorems.proofs.Search.Places.{Positive}
+use Rattle.ranges.specs.declared.Shape.{Shape}
 use Rattle.ranges.proofs.Filled.{Filled, zeros, filled-none, filled-set}
 use Rattle.walk.specs.Digits.{digitsOf, sizesIn, Turning}
 use Rattle.walk.specs.Walked.{Starts}
@@ -30,26 +31,32 @@ abbrev Size : List ℕ → ℕ → ℕ → ℕ → Type 0
 Size tops N v size = size ≡ sizeOf tops N v
 
 -- the sizes are filled up to v
-pub record Sized (tops : List ℕ) (N P : ℕ) (ss : List ℕ) (v : ℕ) : Type 0 where
-  pub few : N ≤ 24
-  pub fewer : P ≤ 16
-  pub ranges : (u : ℕ) → u < N → (1 ≤ getD tops u 0) × (getD tops u 0 ≤ 24)
-  pub inside : v ≤ N + P
-  pub filled : Filled (Size tops N) (λ _. 0) 40 v ss
+pub record Sized (tops : List ℕ) (s : Shape) (ss : List ℕ) (v : ℕ) : Type 0 where
+  pub few : s .variables ≤ 24
+  pub fewer : s .truths ≤ 16
+  pub ranges : (u : ℕ) → u < s .variables → (1 ≤ getD tops u 0) × (getD tops u 0 ≤ 24)
+  pub inside : v ≤ s .variables + s .truths
+  pub filled : Filled (Size tops (s .variables)) (λ _. 0) 40 v ss
 
-pub sized-none : (tops : List ℕ) (N P : ℕ) → N ≤ 24 → P ≤ 16 → ((u : ℕ) → u < N → (1 ≤ getD tops u 0) × (getD tops u 0 ≤ 24))
-    → Sized tops N P (replicate 40 0) 0
-sized-none tops N P n p r =
+pub sized-none : (tops : List ℕ) (s : Shape) → s .variables ≤ 24 → s .truths ≤ 16
+    → ((u : ℕ) → u < s .variables → (1 ≤ getD tops u 0) × (getD tops u 0 ≤ 24)) → Sized tops s (replicate 40 0) 0
+sized-none tops s n p r =
     record {
       few = n;
       fewer = p;
       ranges = r;
       inside = omega arith;
-      filled = filled-none (Size tops N) (λ _. 0) 40 (replicate 40 0) (length-replicate {A = ℕ} 40 0) (zeros 40);
+      filled = filled-none (Size tops (s .variables)) (λ _. 0) 40 (replicate 40 0) (length-replicate {A = ℕ} 40 0) (zeros 40);
     }
 
-module _ (tops : List ℕ) (N P : ℕ) (ss : List ℕ) (v : ℕ) (z : Sized tops N P ss v) where
-  pub sized-more : v < N + P → (size : ℕ) → size ≡ sizeOf tops N v → Sized tops N P (set ss v size) (v + 1)
+module _ {tops : List ℕ} {s : Shape} {ss : List ℕ} {v : ℕ} (z : Sized tops s ss v) where
+  abbrev N : ℕ
+  N = s .variables
+
+  abbrev P : ℕ
+  P = s .truths
+
+  pub sized-more : v < N + P → (size : ℕ) → size ≡ sizeOf tops N v → Sized tops s (set ss v size) (v + 1)
   sized-more h size e =
       let n = z .few in
       let p = z .fewer in
@@ -155,7 +162,7 @@ module _ (tops : List ℕ) (N P : ℕ) (ss : List ℕ) (v : ℕ) (z : Sized tops
               ∙ getD-replicate P (j - N) 2 0 (omega arith))
         ])
 
-    pub beginning : Starts N P o × (sizesIn o ≡ sizes (take N tops) P)
+    pub beginning : Starts s o × (sizesIn o ≡ sizes (take N tops) P)
     beginning = (
       record {
         turning = turning;

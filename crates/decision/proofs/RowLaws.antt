@@ -80,8 +80,8 @@ module _ (s : List ℕ) (ok : Accepted s) where
   unfolding eliminated
   whole = whole-state s ok
 
-  placed-at : (apps : List App) → AllPlaced symbols T (ok .nodes-right) apps → (i : ℕ) → i < length apps
-      → AppPlaced symbols T (ok .nodes-right) (getD apps i noApp)
+  placed-at : (apps : List App) → AllPlaced symbols T (ok .layout .nodes-right) apps → (i : ℕ) → i < length apps
+      → AppPlaced symbols T (ok .layout .nodes-right) (getD apps i noApp)
   placed-at [] a i h = absurd (omega arith)
   placed-at (app ∷ apps) a zero h = a .0
   placed-at (app ∷ apps) a (suc i) h = placed-at apps (a .1) i (omega arith)
@@ -95,14 +95,14 @@ module _ (s : List ℕ) (ok : Accepted s) where
     vs = values (assignmentAt s p) [] (F .out)
 
     abbrev ws : List Value
-    ws = values (built (assignmentAt s p) symbols T (ok .nodes-right)) symbols T
+    ws = values (built (assignmentAt s p) symbols T (ok .layout .nodes-right)) symbols T
 
     -- the image of an argument has a number
     argument-number : (j : ℕ) → j < length (operandsOf symbols n)
         → valueAt vs (getD (imagesOf symbols (F .images) n) j 0) ≡ number (numberAt vs (getD (imagesOf symbols (F .images) n) j 0))
     argument-number j h =
         let A = assignmentAt s p in
-        let right = ok .nodes-right in
+        let right = ok .layout .nodes-right in
         let B = built A symbols T right in
         let k = getD (operandsOf symbols n) j 0 in
         let t = terms-at B symbols T right q (operandsOf symbols n) (operands-terms B symbols T right q n (omega arith) is-app (right-at symbols T q right within)) j h in
@@ -114,7 +114,7 @@ module _ (s : List ℕ) (ok : Accepted s) where
 
     argument-within : (j : ℕ) → j < length (operandsOf symbols n) → getD (imagesOf symbols (F .images) n) j 0 < length vs
     argument-within j h =
-        let right = ok .nodes-right in
+        let right = ok .layout .nodes-right in
         let k = getD (operandsOf symbols n) j 0 in
         let below = terms-at (assignmentAt s p) symbols T right q (operandsOf symbols n) (operands-terms (assignmentAt s p) symbols T right q n (omega arith) is-app (right-at symbols T q right within)) j h .0 in
         let inside = image-within symbols T right k (omega arith) in
@@ -173,12 +173,12 @@ module _ (s : List ℕ) (ok : Accepted s) (l : Laid) (laid : LaidAt s (nodeCount
       turned noApp (F s ok .apps) [] i (omega arith)
       ∙ ap (λ (st : State). getD (st .apps) (length (st .apps) - suc i) noApp) (sym (whole s ok))
 
-  placed : AppPlaced (symbolsOf s) (nodesOf s) (ok .nodes-right) app
+  placed : AppPlaced (symbolsOf s) (nodesOf s) (ok .layout .nodes-right) app
   placed =
       let c = count-is in
-      subst (AppPlaced (symbolsOf s) (nodesOf s) (ok .nodes-right))
+      subst (AppPlaced (symbolsOf s) (nodesOf s) (ok .layout .nodes-right))
       (ap (λ (st : State). getD (st .apps) (length (st .apps) - suc i) noApp) (sym (whole s ok)))
-      (placed-at s ok (F s ok .apps) (apps-placed (symbolsOf s) (nodesOf s) (ok .nodes-right)) (length (F s ok .apps) - suc i) (omega arith))
+      (placed-at s ok (F s ok .apps) (apps-placed (symbolsOf s) (nodesOf s) (ok .layout .nodes-right)) (length (F s ok .apps) - suc i) (omega arith))
 
   pub q-within : q < length (nodesOf s)
   q-within = let n = nodes-length s ok in let b = laid .app-before i h in omega arith
@@ -189,7 +189,7 @@ module _ (s : List ℕ) (ok : Accepted s) (l : Laid) (laid : LaidAt s (nodeCount
   image-in : getD (l .images) q 0 < length (F s ok .out)
   image-in =
       subst (λ m. m < length (F s ok .out)) (sym (laid .app-image i h ∙ placed .image-at))
-      (image-within (symbolsOf s) (nodesOf s) (ok .nodes-right) (placed .at) (placed .at-node))
+      (image-within (symbolsOf s) (nodesOf s) (ok .layout .nodes-right) (placed .at) (placed .at-node))
 
   nodes-are : l .nodes ≡ length (F s ok .out)
   nodes-are = laid .nodes-are ∙ ap (λ (st : State). length (st .out)) (whole s ok)

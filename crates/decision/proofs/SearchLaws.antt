@@ -8,7 +8,7 @@ use lib.ListN.{length, getD, take, replicate, length-append, length-replicate}
 use lib.Seq.{take-all}
 use Rattle.definitions.specs.Lists.{below, productOf}
 use Rattle.definitions.specs.Problem.Node.{Node}
-use Rattle.definitions.specs.Problem.Check.{nodeCount, nodesOf, functionsIn}
+use Rattle.definitions.specs.Problem.Check.{nodeCount, nodesOf, functionsIn, predicatesIn}
 use Rattle.definitions.specs.Logic.{Value, truthAt, nodeValue, values}
 use Rattle.definitions.specs.Elimination.{eliminated, tableOf, rootOf}
 use Rattle.definitions.specs.Ranges.{rank, joined, tops, sizes, topsOf, sizesOf, product, padded}
@@ -26,9 +26,10 @@ use Rattle.theorems.specs.Searched.{AllTrue}
 use Rattle.theorems.proofs.Search.Verdict.{valid-when, falsified-when, stopped-when}
 use Rattle.elimination.specs.State.{Laid, laidOf}
 use Rattle.elimination.proofs.Promising.{nodes-laid, root-laid}
-use Rattle.ranges.specs.Table.{tableIn, TableIn}
+use Rattle.ranges.specs.Table.{tableIn, TableIn, shapeOf}
+use Rattle.ranges.specs.declared.Shape.{Shape}
 use Rattle.ranges.proofs.TopLaws.{padded-at, take-padded}
-use Rattle.ranges.proofs.Measuring.{table-read, table-stands}
+use Rattle.ranges.proofs.Measuring.{table-read, functions-laid, predicates-laid, table-stands}
 use Rattle.walk.specs.Digits.{ValuesAre, sizesIn}
 use Rattle.walk.specs.Walked.{rootTrue, RootIn, Ends}
 use Rattle.walk.specs.declared.odometer.Odometer.{Odometer}
@@ -43,11 +44,8 @@ module _ {s table images apps : List ℕ} {x : Scope} (L : Laying s table images
   abbrev ts : List ℕ
   ts = x .tops
 
-  abbrev functions : ℕ
-  functions = x .functions
-
-  abbrev predicates : ℕ
-  predicates = x .predicates
+  abbrev shape : Shape
+  shape = shapeOf (x .all)
 
   abbrev places : ℕ
   places = x .product
@@ -58,13 +56,19 @@ module _ {s table images apps : List ℕ} {x : Scope} (L : Laying s table images
   abbrev ranks : ℕ → ℕ
   ranks = rank (joined (tableOf s) N)
 
-  pub stands : TableIn table (all .nodes) functions predicates
-  stands = table-stands s (L .accepted) (L .laid) (L .table-long) (L .functions-are) (L .predicates-are)
+  functions-are : shape .variables ≡ N
+  functions-are = functions-laid s (L .accepted) (L .laid)
+
+  predicates-are : shape .truths ≡ predicatesIn (nodesOf s)
+  predicates-are = predicates-laid s (L .accepted) (L .laid)
+
+  pub stands : TableIn table shape
+  stands = table-stands s (L .accepted) (L .laid) (L .table-long)
 
   pub root-there : (k : ℕ) → k ≡ nodeCount s → getD (all .images) (k - 1) 0 ≡ rootOf (eliminated s)
   root-there k e = ap (λ n. getD (all .images) (n - 1) 0) e ∙ root-laid s (L .accepted) (L .laid)
 
-  pub root-in : (root : ℕ) → root ≡ rootOf (eliminated s) → RootIn table (all .nodes) root
+  pub root-in : (root : ℕ) → root ≡ rootOf (eliminated s) → RootIn table shape root
   root-in root e =
       let within = root-within s (L .accepted) in
       let nodes = nodes-laid s (L .accepted) (L .laid) in
@@ -83,54 +87,54 @@ module _ {s table images apps : List ℕ} {x : Scope} (L : Laying s table images
       let few = L .accepted .few-functions in
       omega (arith, ap length tops-ranked, length-append ranked (replicate (24 - length ranked) 0), length-below ranks N, length-replicate {A = ℕ} (24 - length ranked) 0)
 
-  pub tops-low : (v : ℕ) → v < functions → (1 ≤ getD ts v 0) × (getD ts v 0 ≤ 24)
+  pub tops-low : (v : ℕ) → v < shape .variables → (1 ≤ getD ts v 0) × (getD ts v 0 ≤ 24)
   tops-low v h =
-      let f = L .functions-are in
+      let f = functions-are in
       let few = L .accepted .few-functions in
       let e = ap (λ (xs : List ℕ). getD xs v 0) tops-ranked ∙ padded-at ranks N v (omega arith) in
       let less = howMany-le (joined (tableOf s) N v) v in
       (omega arith, omega arith)
 
-  pub few-variables : functions ≤ 24
-  few-variables = let f = L .functions-are in let few = L .accepted .few-functions in omega arith
+  pub few-variables : shape .variables ≤ 24
+  few-variables = let f = functions-are in let few = L .accepted .few-functions in omega arith
 
-  pub few-truths : predicates ≤ 16
-  few-truths = let f = L .predicates-are in let few = L .accepted .few-predicates in omega arith
+  pub few-truths : shape .truths ≤ 16
+  few-truths = let f = predicates-are in let few = L .accepted .few-predicates in omega arith
 
-  sizes-are : sizes (take functions ts) predicates ≡ sizesOf s
+  sizes-are : sizes (take (shape .variables) ts) (shape .truths) ≡ sizesOf s
   unfolding sizesOf topsOf tops
   sizes-are =
-      ap₂ (λ (n : ℕ) (xs : List ℕ). sizes (take n xs) predicates) (L .functions-are) tops-ranked
-      ∙ ap₂ sizes (take-padded ranks N) (L .predicates-are)
+      ap₂ (λ (n : ℕ) (xs : List ℕ). sizes (take n xs) (shape .truths)) functions-are tops-ranked
+      ∙ ap₂ sizes (take-padded ranks N) predicates-are
 
   -- the product of these sizes is that of the ranges
-  pub places-same : (o : Odometer) → sizesIn o ≡ sizes (take functions ts) predicates → productOf (sizesIn o) ≡ places
+  pub places-same : (o : Odometer) → sizesIn o ≡ sizes (take (shape .variables) ts) (shape .truths) → productOf (sizesIn o) ≡ places
   unfolding product
   places-same o same = ap productOf (same ∙ sizes-are) ∙ sym (L .places-are)
 
   -- a walk from place 1 on, with these sizes
-  module _ (o : Odometer) (same : sizesIn o ≡ sizes (take functions ts) predicates) (root : ℕ) (r : root ≡ rootOf (eliminated s)) where
+  module _ (o : Odometer) (same : sizesIn o ≡ sizes (take (shape .variables) ts) (shape .truths)) (root : ℕ) (r : root ≡ rootOf (eliminated s)) where
     abbrev good : ℕ → Bool
-    good = rootTrue table (all .nodes) functions root (sizesIn o)
+    good = rootTrue table shape root (sizesIn o)
 
-    values-same : (p : ℕ) → values (assignment functions (digitsAt (sizesIn o) p)) [] (tableIn table (all .nodes)) ≡ valuesAt s p
+    values-same : (p : ℕ) → values (assignment (shape .variables) (digitsAt (sizesIn o) p)) [] (tableIn table (shape .nodes)) ≡ valuesAt s p
     unfolding valuesAt
-    values-same p = rw (same ∙ sizes-are, L .functions-are, table-read s (L .accepted) (L .laid))
+    values-same p = rw (same ∙ sizes-are, functions-are, table-read s (L .accepted) (L .laid))
 
     good-same : (p : ℕ) → good p ≡ trueAt s p
     unfolding trueAt
     good-same p = ap₂ truthAt (values-same p) r
 
-    pub values-left : (p : ℕ) (vals : List ℕ) → ValuesAre table (all .nodes) functions (digitsAt (sizesIn o) p) (all .nodes) vals → ValuesOf s p vals
+    pub values-left : (p : ℕ) (vals : List ℕ) → ValuesAre table shape (digitsAt (sizesIn o) p) vals → ValuesOf s p vals
     unfolding valuesAt
     values-left p vals are =
-        let vs = values (assignment functions (digitsAt (sizesIn o) p)) [] (tableIn table (all .nodes)) in
+        let vs = values (assignment (shape .variables) (digitsAt (sizesIn o) p)) [] (tableIn table (shape .nodes)) in
         let e = values-same p in
-        let many = length-grown (nodeValue (assignment functions (digitsAt (sizesIn o) p)) []) (tableIn table (all .nodes)) in
+        let many = length-grown (nodeValue (assignment (shape .variables) (digitsAt (sizesIn o) p)) []) (tableIn table (shape .nodes)) in
         let laid = ap (λ (t : List Node). length t) (table-read s (L .accepted) (L .laid)) ∙ sym (nodes-laid s (L .accepted) (L .laid)) in
-        ap (λ n. take n vals) (let q : length (valuesAt s p) ≡ all .nodes = ap (λ (xs : List Value). length xs) (sym e) ∙ many ∙ laid in q)
+        ap (λ n. take n vals) (let q : length (valuesAt s p) ≡ shape .nodes = ap (λ (xs : List Value). length xs) (sym e) ∙ many ∙ laid in q)
         ∙ are
-        ∙ ap (map byteOf) (take-all (all .nodes) vs (omega arith) ∙ e)
+        ∙ ap (map byteOf) (take-all (shape .nodes) vs (omega arith) ∙ e)
 
     -- what the search answers, by how the walk ends
     module _ (budget limit tried : ℕ) (least : limit ≡ min budget places) (witness : List ℕ) where

@@ -16,7 +16,7 @@ use Rattle.theorems.proofs.Accepted.{Accepted}
 use Rattle.theorems.proofs.Witness.ReadBack.{witness-length}
 use Rattle.problem.proofs.Putting.{over-more, over-over}
 use Rattle.elimination.specs.State.{Laid, LaidAt}
-use Rattle.elimination.proofs.Laying.{concatMap-append}
+use Rattle.problem.proofs.Laying.{concatMap-append}
 use Rattle.decision.specs.Rows.{noRow, headBytes, ValuesOf, RowWritten, WitnessWritten}
 use Rattle.decision.proofs.RowLaws.{whole}
 

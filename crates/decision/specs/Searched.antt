@@ -3,7 +3,6 @@ use mathlib.Core.Path.{_≡_}
 use Prim.Native.Nat.{ℕ, _≤_}
 use mathlib.Core.List.{List}
 use lib.ListN.{length}
-use Rattle.definitions.specs.Problem.Check.{nodesOf, functionsIn, predicatesIn}
 use Rattle.definitions.specs.Ranges.{topsOf, product, padded}
 use Rattle.definitions.specs.Verdict.{outcomeOf}
 use Rattle.definitions.specs.Operations.Answers.{given, decided}
@@ -21,8 +20,6 @@ pub record Laying (s table images apps : List ℕ) (x : Scope) : Type 0 where
   pub owns : List ℕ
   pub laid : AllLaid s work (laidOf images apps owns (x .all)) table
   pub table-long : 21056 ≤ length table
-  pub functions-are : x .functions ≡ functionsIn (nodesOf s)
-  pub predicates-are : x .predicates ≡ predicatesIn (nodesOf s)
   pub tops-are : x .tops ≡ padded (topsOf s)
   pub places-are : x .product ≡ product s
 

@@ -6,6 +6,7 @@ ghost use Rattle.definitions.specs.Ranges.{sizes};
 ghost use Rattle.walk.specs.Digits.{sizesIn};
 ghost use Rattle.walk.specs.Walked.{Starts};
 ghost use Rattle.decision.specs.Sizes.{sizeOf};
+use ranges::Shape;
 use walk::odometer::Odometer;
 
 // The size of a range: a variable's top, or 2 for a truth variable.
@@ -20,15 +21,15 @@ fn size_at(tops: [u8; 24], variables: usize, v: usize) -> u8
 }
 
 // The sizes are the tops, then 2 for each truth variable.
-pub fn odometer(tops: [u8; 24], variables: usize, truths: usize) -> Odometer
-    requires { ⌜ (length tops ≡ 24) × (variables ≤ 24) × (truths ≤ 16) × ((v : ℕ) → v < variables → (1 ≤ getD tops v 0) × (getD tops v 0 ≤ 24)) ⌝ }
-    ensures { λ r. ⌜ Starts variables truths r × (sizesIn r ≡ sizes (take variables tops) truths) ⌝ }
+pub fn odometer(tops: [u8; 24], shape: Shape) -> Odometer
+    requires { ⌜ (length tops ≡ 24) × (shape .variables ≤ 24) × (shape .truths ≤ 16) × ((v : ℕ) → v < shape .variables → (1 ≤ getD tops v 0) × (getD tops v 0 ≤ 24)) ⌝ }
+    ensures { λ r. ⌜ Starts shape r × (sizesIn r ≡ sizes (take (shape .variables) tops) (shape .truths)) ⌝ }
 {
-    let count = variables + truths;
+    let count = shape.variables + shape.truths;
     let mut sizes = [0u8; 40];
     let mut v = 0;
     while v < count {
-        sizes[v] = size_at(tops, variables, v);
+        sizes[v] = size_at(tops, shape.variables, v);
         v += 1;
     }
     Odometer {

@@ -12,8 +12,9 @@ use elimination::copies::images_of;
 use elimination::tally::Tally;
 use problem::bytes::number;
 use problem::bytes::put;
-use problem::bytes::two_at;
 use problem::bytes::wide;
+use problem::head::Header;
+use problem::head::header_of;
 use problem::nodes::arity_of;
 use problem::nodes::node_at;
 
@@ -59,8 +60,7 @@ fn value_at(numbers: &[u16], k: usize, values: &[u8]) -> u8
 // Row i: the symbol, the values of the arguments' images, the value of the application's image.
 fn write_row(
     problem: &[u8],
-    symbols: usize,
-    nodes: usize,
+    header: Header,
     images: &[u16],
     apps: &[u8],
     all: Tally,
@@ -68,13 +68,13 @@ fn write_row(
     values: &[u8],
     witness: &mut [u8],
 )
-    requires { ⌜ Accepted (now problem) × Shaped (now problem) symbols nodes × Noted (now problem) (now images) (now apps) all × (i < all .count) × (all .nodes ≤ length (now values)) × (206 ≤ length (now witness)) ⌝ }
+    requires { ⌜ Accepted (now problem) × Shaped (now problem) header × Noted (now problem) (now images) (now apps) all × (i < all .count) × (all .nodes ≤ length (now values)) × (206 ≤ length (now witness)) ⌝ }
     ensures { λ r. ⌜ RowWritten (now (problem .entry)) i (now (values .entry)) (now (witness .entry)) (now (witness .exit)) ⌝ }
 {
     let q = wide(apps[i]);
-    let symbol = problem[node_at(symbols, q) + 1];
-    let arity = arity_of(problem, symbols, nodes, wide(symbol));
-    let xs = images_of(problem, symbols, nodes, nodes, q, images);
+    let symbol = problem[node_at(header, q) + 1];
+    let arity = arity_of(problem, header, wide(symbol));
+    let xs = images_of(problem, header, header.nodes, q, images);
     let x = argument(values, 0 < arity, xs[0]);
     let y = argument(values, 1 < arity, xs[1]);
     let z = argument(values, 2 < arity, xs[2]);
@@ -95,23 +95,12 @@ pub fn write_witness(
     requires { ⌜ Accepted (now problem) × Noted (now problem) (now images) (now apps) all × (all .nodes ≤ length (now values)) × (206 ≤ length (now witness)) ⌝ }
     ensures { λ r. ⌜ WitnessWritten (now (problem .entry)) (now (values .entry)) (now (witness .entry)) r (now (witness .exit)) ⌝ }
 {
-    let symbols = wide(problem[5]);
-    let nodes = two_at(problem, 6);
+    let header = header_of(problem);
     let count = all.count;
     put_head(witness, (count % 256) as u8);
     let mut i = 0;
     while i < count {
-        write_row(
-            problem,
-            symbols,
-            nodes,
-            images,
-            apps,
-            all,
-            i,
-            values,
-            witness,
-        );
+        write_row(problem, header, images, apps, all, i, values, witness);
         i += 1;
     }
     6 + 5 * count

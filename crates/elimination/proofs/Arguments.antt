@@ -69,7 +69,7 @@ module _
 
 module _ (s : List ℕ) (ok : Accepted s) where
   right-node : (q : ℕ) → q < nodeCount s → nodeRight (symbolsOf s) (take q (nodesOf s)) (node (nodesOf s) q) ≡ true
-  right-node q h = right-at (symbolsOf s) (nodesOf s) q (ok .nodes-right) (omega (arith, nodes-length s ok))
+  right-node q h = right-at (symbolsOf s) (nodesOf s) q (ok .layout .nodes-right) (omega (arith, nodes-length s ok))
 
   -- node q is an application, whose symbol has an arity
   module _

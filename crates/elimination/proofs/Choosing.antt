@@ -15,9 +15,9 @@ use Rattle.definitions.specs.Problem.Check.{symbolsOf, nodesOf}
 use Rattle.definitions.specs.Elimination.{App, imagesOf, last, condition, choiceOp, choices, sameSymbol}
 use Rattle.theorems.proofs.Laws.Tests.{and-left, and-right}
 use Rattle.problem.specs.Stages.{oneSymbol}
-use Rattle.elimination.specs.Lays.{Lays}
+use Rattle.problem.specs.Lays.{Lays}
 use Rattle.elimination.specs.State.{stateAt, noApp, appAt}
-use Rattle.elimination.proofs.Laying.{lays-on, lays-as}
+use Rattle.problem.proofs.Laying.{lays-on, lays-as}
 
 -- two nodes that are of one op and one symbol
 module _ (m n : Node) where

@@ -76,7 +76,7 @@ module _ (s : List ℕ) (ok : Accepted s) (k : ℕ) (h : k < nodeCount s) where
           → LaidAt s (k + 1) (imageSet (appAdded l k (l .nodes) functions predicates) k (at - 1) at)
       added at functions predicates e f g =
           let next = next-app s ok k h p new in
-          let few = ok .few-nodes in
+          let few = ok .layout .few-nodes in
           let place = place-left in
           let count = before .count-is in
           laid-app s k _ before (omega arith) n refl (omega arith) at (e ∙ ap (λ (F : State). length (F .out)) next)

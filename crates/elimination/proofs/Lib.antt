@@ -1,4 +1,3 @@
-pub mod Laying
 pub mod Pairwise
 pub mod Prefix
 pub mod Tallying

@@ -14,9 +14,9 @@ use Rattle.definitions.specs.Problem.Ops.{Sort, arity, nodeRight, sortsOf, coun
 use Rattle.definitions.specs.Problem.Check.{nodeCount, symbolsOf, nodesOf}
 use Rattle.definitions.specs.Elimination.{imagesOf}
 use Rattle.theorems.proofs.Laws.Tests.{none≢some}
-use Rattle.theorems.proofs.Laws.Ops.{AllBelow}
 use Rattle.theorems.proofs.Accepted.{Accepted}
 use Rattle.theorems.proofs.Tables.Fixed.{right-at, right-below}
+use Rattle.asked.proofs.Operands.{below-at}
 use Rattle.problem.specs.Wanted.{sortWanted, wantedOf}
 use Rattle.elimination.specs.State.{stateAt}
 use Rattle.elimination.proofs.Prefix.{nodes-length, image-small}
@@ -44,11 +44,6 @@ pub map-at : {A B : Type 0} (f : A → B) (xs : List A) (j : ℕ) (d : A) (e : B
 map-at f [] j d e h = absurd (omega arith)
 map-at f (x ∷ xs) zero d e h = refl
 map-at f (x ∷ xs) (suc j) d e h = map-at f xs j d e (omega arith)
-
-below-at : (m : ℕ) (xs : List ℕ) (j : ℕ) → AllBelow m xs → j < length xs → getD xs j 0 < m
-below-at m [] j b h = absurd (omega arith)
-below-at m (x ∷ xs) zero b h = b .0
-below-at m (x ∷ xs) (suc j) b h = below-at m xs j (b .1) (omega arith)
 
 module _ (symbols : List ℕ) (n : Node) (j : ℕ) where
   -- what field j is wanted for
@@ -100,7 +95,7 @@ module _ (s : List ℕ) (k q j : ℕ) (u : InUse s k q j) where
   pub operand-before : operand < q
   operand-before =
       let l = nodes-length s (u .ok) in
-      let right = right-at (symbolsOf s) (nodesOf s) q (u .ok .nodes-right) (omega arith) in
+      let right = right-at (symbolsOf s) (nodesOf s) q (u .ok .layout .nodes-right) (omega arith) in
       let below = field-below (symbolsOf s) (node (nodesOf s) q) j (u .sort) (u .used) (u .field) (take q (nodesOf s)) right in
       omega (arith, length-take-le q (nodesOf s) (omega arith))
 

@@ -82,7 +82,7 @@ module _ (s : List ℕ) (ok : Accepted s) where
     taken = length-take-le k (nodesOf s) (let e = nodes-length in omega arith)
 
     pub prefix-right : firstWrong (symbolsOf s) [] T ≡ none
-    prefix-right = right-prefix (symbolsOf s) [] (nodesOf s) k (ok .nodes-right)
+    prefix-right = right-prefix (symbolsOf s) [] (nodesOf s) k (ok .layout .nodes-right)
 
     few-functions : functionsIn T ≤ 24
     few-functions = let a = distinct-prefix 0 [] (nodesOf s) k in let b = ok .few-functions in omega arith
@@ -95,7 +95,7 @@ module _ (s : List ℕ) (ok : Accepted s) where
 
     pub state-short : length (stateAt s k .out) ≤ 2632
     state-short =
-        table-bound (symbolsOf s) T (let e = taken in let f = ok .few-nodes in omega arith) few-functions few-predicates
+        table-bound (symbolsOf s) T (let e = taken in let f = ok .layout .few-nodes in omega arith) few-functions few-predicates
 
     pub state-images : length (stateAt s k .images) ≡ k
     state-images = images-length (symbolsOf s) T prefix-right ∙ taken
@@ -123,5 +123,5 @@ module _ (s : List ℕ) (ok : Accepted s) where
       let few = besides-small (k + 1) (omega arith) in
       let same = ap (λ F. besides (F .apps)) e in
       let one = besides-more (newApp (symbolsOf s) st n) (st .apps) p in
-      let nodes = ok .few-nodes in
+      let nodes = ok .layout .few-nodes in
       omega arith

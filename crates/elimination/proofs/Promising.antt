@@ -1,5 +1,5 @@
--- From what check promises to what the operations that lay the table promise. A refusal of check is theirs too; then a work buffer
--- that is too short is refused; where neither is, the problem is accepted. A refusal leaves the work buffer as it was.
+-- From what 9 and 10 answer on the problem asked to what the operations that lay the table promise. Such a refusal is theirs too; then a
+-- work buffer that is too short is refused; where neither is, the problem asked is accepted. A refusal leaves the work buffer as it was.
 -- Assumes nothing.
 use mathlib.Core.Path.{_≡_, refl, sym, ap, ap₂, _∙_}
 use Prim.Native.Nat.{ℕ, _-_, _≤_, _<_}
@@ -10,32 +10,23 @@ use lib.ListN.{length, getD}
 use lib.Seq.{getD-take, take-all}
 use borrow.Author.Tests.{lt-ltb, le-ltb}
 use Rattle.definitions.specs.Problem.Node.{tableBytes}
-use Rattle.definitions.specs.Problem.Check.{symbolCount, nodeCount, symbolsOf, nodesOf, functionsIn, predicatesIn}
-use Rattle.definitions.specs.Problem.Check.{Refused, refuse, refusalOf}
+use Rattle.definitions.specs.Problem.Check.{nodeCount, symbolsOf, nodesOf, functionsIn, predicatesIn}
+use Rattle.definitions.specs.Problem.Check.{Refused, refuse}
+use Rattle.definitions.specs.Problem.Asked.{asked, limitRefusal, refusalOf}
 use Rattle.definitions.specs.Elimination.{State, begin, steps, eliminated, tableOf, rootOf}
-use Rattle.definitions.specs.Operations.Answers.{refused, given, unless, Counts, checkAnswer, eliminateRefusal, eliminateAnswer}
-use Rattle.definitions.specs.Operations.Buffers.{over, workAfter}
-use Rattle.definitions.specs.Operations.Readings.{refusalRead}
-use Rattle.definitions.specs.Operations.Promises.{CheckPromise, EliminatePromise}
+use Rattle.definitions.specs.Operations.Answers.{refused, given, unless, Counts, counts, laid, eliminateRefusal, eliminateAnswer}
+use Rattle.definitions.specs.Operations.Buffers.{over, unlessRefused, workAfter}
+use Rattle.definitions.specs.Operations.Readings.{refusalRead, checkedRead}
+use Rattle.definitions.specs.Operations.Promises.{EliminatePromise}
 use Rattle.definitions.specs.declared.Refusal.{Refusal}
 use Rattle.definitions.specs.declared.Checked.{Checked}
 use Rattle.definitions.specs.declared.Eliminated.{Eliminated}
-use Rattle.theorems.proofs.Accepted.{Accepted, accepted}
-use Rattle.problem.specs.Shape.{Shaped}
+use Rattle.theorems.specs.Asking.{Asks}
+use Rattle.theorems.proofs.Accepted.{Formed, Accepted, accept-limits}
+use Rattle.theorems.proofs.Asked.Asks.{asks-refusal}
+use Rattle.asked.specs.Asking.{Counted}
 use Rattle.elimination.specs.State.{stateAt, Laid, AllLaid}
 use Rattle.elimination.proofs.Prefix.{nodes-length, state-images}
-
--- the header of an accepted problem is settled
-pub shaped : {s : List ℕ} {symbols nodes : ℕ} → Accepted s → symbols ≡ symbolCount s → nodes ≡ nodeCount s → Shaped s symbols nodes
-shaped ok e f =
-    record {
-      symbols-are = e;
-      nodes-are = f;
-      few-symbols = rw e (ok .few-symbols);
-      some-nodes = rw f (ok .some-nodes);
-      few-nodes = rw f (ok .few-nodes);
-      whole = rw (e, f) (ok .whole);
-    }
 
 -- an answer that is a refusal, or values, tells whether there was a refusal
 module _ {A : Type 0} (v : A) where
@@ -51,75 +42,77 @@ module _ {A : Type 0} (v : A) where
   values-told (some x) u e = absurd (let z : _≡_ {A = ℕ} 0 1 = cc in omega arith)
   values-told none u e = cc
 
--- what check has answered
-module _ {s : List ℕ} {answer : Checked} (p : CheckPromise s answer) where
-  pub refused-by : {r : Refusal} → answer ≡ Checked.Refused r → refusalOf s ≡ some (refusalRead r)
-  unfolding checkAnswer
-  refused-by {r} e = refusal-told _ (refusalOf s) (refusalRead r) (rw e at (p .answers))
+-- what 9 and 10 have answered on the problem asked
+module _ {a : List ℕ} {answer : Checked} (p : Counted a answer) where
+  pub refused-by : {r : Refusal} → answer ≡ Checked.Refused r → limitRefusal a ≡ some (refusalRead r)
+  refused-by {r} e = refusal-told _ (limitRefusal a) (refusalRead r) (ap checkedRead (sym e) ∙ p .answers)
 
   module _ {f g : ℕ} (e : answer ≡ Checked.Accepted f g) where
-    abbrev counts : Counts
-    counts = record { functions = f; predicates = g }
+    pub not-refused : limitRefusal a ≡ none
+    not-refused = none-told _ (limitRefusal a) _ (ap checkedRead (sym e) ∙ p .answers)
 
-    pub not-refused : refusalOf s ≡ none
-    unfolding checkAnswer
-    not-refused = none-told _ (refusalOf s) counts (rw e at (p .answers))
+    pub is-accepted : Formed a → Accepted a
+    is-accepted formed = accept-limits a formed not-refused
 
-    pub is-accepted : Accepted s
-    is-accepted = accepted s not-refused
+    told : record { functions = f; predicates = g } ≡ counts a
+    told = values-told _ (limitRefusal a) _ (ap checkedRead (sym e) ∙ p .answers)
 
-    pub functions-answered : f ≡ functionsIn (nodesOf s)
-    unfolding checkAnswer
-    functions-answered = ap (λ (c : Counts). c .functions) (values-told _ (refusalOf s) counts (rw e at (p .answers)))
+    pub functions-answered : f ≡ functionsIn (nodesOf a)
+    functions-answered = ap (λ (c : Counts). c .functions) told
 
-    pub predicates-answered : g ≡ predicatesIn (nodesOf s)
-    unfolding checkAnswer
-    predicates-answered = ap (λ (c : Counts). c .predicates) (values-told _ (refusalOf s) counts (rw e at (p .answers)))
+    pub predicates-answered : g ≡ predicatesIn (nodesOf a)
+    predicates-answered = ap (λ (c : Counts). c .predicates) told
 
--- refusals 1 to 11
-module _ (s : List ℕ) (work : ℕ) where
-  pub refused-first : (r : Refused) → refusalOf s ≡ some r → eliminateRefusal s work ≡ some r
+-- refusals 1 to 7, 16, 9, 10 and 11
+pub refused-first : (s : List ℕ) (root work : ℕ) (r : Refused) → refusalOf s root ≡ some r → eliminateRefusal s root work ≡ some r
+unfolding eliminateRefusal
+refused-first s root work r e = rw e
+
+module _ {s : List ℕ} {root : ℕ} {a : List ℕ} (A : Asks s root a) (work : ℕ) where
+  pub refused-limit : (r : Refused) → limitRefusal a ≡ some r → eliminateRefusal s root work ≡ some r
+  refused-limit r e = refused-first s root work r (asks-refusal A ∙ e)
+
+  pub refused-short : limitRefusal a ≡ none → work < 21056 → eliminateRefusal s root work ≡ some (refuse 11 0)
   unfolding eliminateRefusal
-  refused-first r e = rw e
+  refused-short e h = rw (asks-refusal A ∙ e, lt-ltb work 21056 h)
 
-  pub refused-short : refusalOf s ≡ none → work < 21056 → eliminateRefusal s work ≡ some (refuse 11 0)
+  pub taken : limitRefusal a ≡ none → 21056 ≤ work → eliminateRefusal s root work ≡ none
   unfolding eliminateRefusal
-  refused-short e h = rw (e, lt-ltb work 21056 h)
+  taken e h = rw (asks-refusal A ∙ e, le-ltb work 21056 h)
 
-  pub taken : refusalOf s ≡ none → 21056 ≤ work → eliminateRefusal s work ≡ none
-  unfolding eliminateRefusal
-  taken e h = rw (e, le-ltb work 21056 h)
-
--- what a refusal among them answers and leaves, and what it answers and leaves where there is none
-module _ (s work : List ℕ) where
-  pub work-kept : (r : Refused) → eliminateRefusal s (length work) ≡ some r → work ≡ workAfter s work
+-- what a refusal among them leaves, and what is left where there is none
+module _ (s : List ℕ) (root : ℕ) (work : List ℕ) where
+  pub work-kept : (r : Refused) → eliminateRefusal s root (length work) ≡ some r → work ≡ workAfter s root work
   unfolding workAfter
   work-kept r e = rw e
 
-  pub work-laid : eliminateRefusal s (length work) ≡ none → over (tableBytes (tableOf s)) work ≡ workAfter s work
-  unfolding workAfter
-  work-laid e = rw e
-
-  refusal-answered : (r : Refused) → eliminateRefusal s (length work) ≡ some r → refused r ≡ eliminateAnswer s (length work)
+  refusal-answered : (r : Refused) → eliminateRefusal s root (length work) ≡ some r → refused r ≡ eliminateAnswer s root (length work)
   unfolding eliminateAnswer
   refusal-answered r e = rw e
 
-  table-answered : eliminateRefusal s (length work) ≡ none
-      → given (record { nodes = length (tableOf s); root = rootOf (eliminated s) }) ≡ eliminateAnswer s (length work)
-  unfolding eliminateAnswer
-  table-answered e = rw e
-
-  pub refusal-promised : {r : Refusal} → eliminateRefusal s (length work) ≡ some (refusalRead r)
-      → EliminatePromise s work (Eliminated.Refused r) work
+  pub refusal-promised : {r : Refusal} → eliminateRefusal s root (length work) ≡ some (refusalRead r)
+      → EliminatePromise root s work (Eliminated.Refused r) work
   refusal-promised e = record { answers = refusal-answered _ e; work-after = work-kept _ e }
 
-  pub table-promised : {nodes root : ℕ} {work′ : List ℕ} → eliminateRefusal s (length work) ≡ none → nodes ≡ length (tableOf s)
-      → root ≡ rootOf (eliminated s) → work′ ≡ over (tableBytes (tableOf s)) work
-      → EliminatePromise s work (Eliminated.Table nodes root) work′
-  table-promised e n r w =
+module _ {s : List ℕ} {root : ℕ} {a : List ℕ} (A : Asks s root a) (work : List ℕ) (e : eliminateRefusal s root (length work) ≡ none) where
+  pub work-laid : over (tableBytes (tableOf a)) work ≡ workAfter s root work
+  unfolding workAfter
+  work-laid =
+      ap (λ (b : List ℕ). over (tableBytes (tableOf b)) work) (sym (A .problem))
+      ∙ sym (ap (λ (o : Option Refused). unlessRefused o work (over (tableBytes (tableOf (asked s root))) work)) e)
+
+  table-answered : given (laid a) ≡ eliminateAnswer s root (length work)
+  unfolding eliminateAnswer
+  table-answered =
+      ap (λ (b : List ℕ). given (laid b)) (sym (A .problem))
+      ∙ sym (ap (λ (o : Option Refused). unless o (laid (asked s root))) e)
+
+  pub table-promised : {nodes image : ℕ} {work′ : List ℕ} → nodes ≡ length (tableOf a) → image ≡ rootOf (eliminated a)
+      → work′ ≡ over (tableBytes (tableOf a)) work → EliminatePromise root s work (Eliminated.Table nodes image) work′
+  table-promised n r w =
       record {
-        answers = ap₂ (λ (x y : ℕ). given (record { nodes = x; root = y })) n r ∙ table-answered e;
-        work-after = w ∙ work-laid e;
+        answers = ap₂ (λ (x y : ℕ). given (record { nodes = x; root = y })) n r ∙ table-answered;
+        work-after = w ∙ work-laid;
       }
 
 -- the whole table of an accepted problem, as the code has it
@@ -140,7 +133,7 @@ module _ (s : List ℕ) (ok : Accepted s) where
     pub root-laid : getD (l .images) (nodeCount s - 1) 0 ≡ rootOf (eliminated s)
     root-laid =
         let n = nodeCount s in
-        let some-node = ok .some-nodes in
+        let some-node = ok .layout .some-nodes in
         let many = state-images s ok n (omega arith) in
         let last : n - 1 ≡ length (stateAt s n .images) - 1 = omega arith in
         sym (getD-take n (l .images) (n - 1) 0 (omega arith))

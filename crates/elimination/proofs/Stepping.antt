@@ -17,7 +17,7 @@ use Rattle.definitions.specs.Operations.Buffers.{over}
 use Rattle.theorems.proofs.Laws.Ops.{app-op}
 use Rattle.theorems.proofs.Accepted.{Accepted}
 use Rattle.problem.specs.Stages.{firstSame}
-use Rattle.elimination.specs.Lays.{Lays}
+use Rattle.problem.specs.Lays.{Lays}
 use Rattle.elimination.specs.State.{stateAt, Laid, LaidAt, StepLays}
 use Rattle.elimination.proofs.Prefix.{nodes-length, state-next, state-done, state-images, state-short}
 use Rattle.elimination.proofs.Repeating.{scan-none, scan-some, step-copy, step-repeat, step-new}

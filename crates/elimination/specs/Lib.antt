@@ -1,3 +1,3 @@
-pub mod Lays
+pub mod Choice
 pub mod State
 pub mod Tallied

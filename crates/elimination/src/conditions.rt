@@ -4,16 +4,32 @@ ghost use lib.ListN.{length, take};
 ghost use Rattle.definitions.specs.Lists.{snoc};
 ghost use Rattle.definitions.specs.Problem.Node.{plain};
 ghost use Rattle.definitions.specs.Elimination.{last, condition};
-ghost use Rattle.elimination.specs.Lays.{Lays, Small, oneMore};
-use crate::put::lay;
+ghost use Rattle.problem.specs.Lays.{Lays};
+ghost use Rattle.elimination.specs.Choice.{Small, oneMore};
+use problem::put::Node;
+use problem::put::lay;
 
 // One argument more: its equation, and then the "and" of what stood before with it.
 fn lay_further(work: &mut [u8], count: usize, x: usize, y: usize)
     requires { ⌜ (1 ≤ count) × (count + 2 ≤ 2632) × (x < 2632) × (y < 2632) × (21056 ≤ length (now work)) ⌝ }
     ensures { λ r. ⌜ Lays (now (work .entry)) (now (work .exit)) count (count + 2) (oneMore x y) ⌝ }
 {
-    lay(work, count, 2, 0, x, y, 0);
-    lay(work, count + 1, 4, 0, count - 1, count, 0);
+    let equation = Node {
+        op: 2,
+        symbol: 0,
+        a: x,
+        b: y,
+        c: 0,
+    };
+    lay(work, count, equation);
+    let both = Node {
+        op: 4,
+        symbol: 0,
+        a: count - 1,
+        b: count,
+        c: 0,
+    };
+    lay(work, count + 1, both);
 }
 
 // The condition that the arguments xs and ys are equal in pairs: an equation for the first, and then the further ones.
@@ -27,7 +43,14 @@ fn lay_condition(
     requires { ⌜ (1 ≤ arity) × (arity ≤ 3) × Small xs × Small ys × (count + 5 ≤ 2632) × (21056 ≤ length (now work)) ⌝ }
     ensures { λ r. ⌜ Lays (now (work .entry)) (now (work .exit)) count r (λ t. condition t (take arity xs) (take arity ys)) × (count < r) × (r ≤ count + 5) ⌝ }
 {
-    lay(work, count, 2, 0, xs[0], ys[0], 0);
+    let equation = Node {
+        op: 2,
+        symbol: 0,
+        a: xs[0],
+        b: ys[0],
+        c: 0,
+    };
+    lay(work, count, equation);
     if arity == 1 {
         return count + 1;
     }
@@ -53,6 +76,13 @@ pub fn lay_choice(
     ensures { λ r. ⌜ Lays (now (work .entry)) (now (work .exit)) count r (λ t. snoc (condition t (take arity xs) (take arity ys)) (plain op (last (condition t (take arity xs) (take arity ys))) own (last t))) × (count < r) × (r ≤ count + 6) ⌝ }
 {
     let at = lay_condition(work, count, arity, xs, ys);
-    lay(work, at, op, 0, at - 1, own, count - 1);
+    let choice = Node {
+        op,
+        symbol: 0,
+        a: at - 1,
+        b: own,
+        c: count - 1,
+    };
+    lay(work, at, choice);
     at + 1
 }

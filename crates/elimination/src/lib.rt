@@ -4,49 +4,68 @@ ghost use Prim.Native.Nat.{_+_, _<_, _≤_};
 ghost use mathlib.Core.Path.{_≡_};
 ghost use lib.ListN.{length};
 ghost use Rattle.definitions.specs.Operations.Promises.{EliminatePromise};
-ghost use Rattle.theorems.proofs.Accepted.{Accepted};
+ghost use Rattle.theorems.proofs.Accepted.{Formed, Accepted};
 ghost use Rattle.problem.specs.Shape.{Shaped};
+ghost use Rattle.asked.specs.Asking.{ForAsked};
 ghost use Rattle.elimination.specs.State.{laidOf, LaidAt, StepLays, AllLaid};
 use crate::applications::add_application;
 use crate::copies::copy_node;
 use crate::tally::Tally;
+use asked::Asked;
+use asked::ask;
+use asked::counts;
+use asked::trim::trim;
 use definitions::Checked;
 use definitions::Eliminated;
 use definitions::Refusal;
 use problem::bytes::Found;
 use problem::bytes::number;
-use problem::bytes::two_at;
-use problem::bytes::wide;
+use problem::head::Header;
 use problem::nodes::node_at;
 use problem::repeats::earliest;
 
 mod applications;
 mod conditions;
 pub mod copies;
-pub mod put;
 pub mod tally;
 
-pub fn eliminate(problem: &[u8], work: &mut [u8]) -> Eliminated
-    ensures { λ r. ⌜ EliminatePromise (now (problem .entry)) (now (work .entry)) r (now (work .exit)) ⌝ }
+pub fn eliminate(root: usize, problem: &[u8], work: &mut [u8]) -> Eliminated
+    ensures { λ r. ⌜ EliminatePromise root (now (problem .entry)) (now (work .entry)) r (now (work .exit)) ⌝ }
 {
-    match problem::check(problem) {
+    match ask(root, problem) {
+        Asked::Refused(refusal) => Eliminated::Refused(refusal),
+        Asked::Whole(header) => eliminate_asked(problem, header, work),
+        Asked::Part(header) => {
+            let mut room = [0u8; 2088];
+            let part = trim(root, problem, header, &mut room);
+            let end = part.size();
+            eliminate_asked(&room[..end], part, work)
+        }
+    }
+}
+
+// The table of the problem asked, whatever root of whatever problem that is.
+fn eliminate_asked(asked: &[u8], header: Header, work: &mut [u8]) -> Eliminated
+    requires { ⌜ Formed (now asked) × Shaped (now asked) header ⌝ }
+    ensures { λ r. ⌜ ForAsked (now (asked .entry)) (λ root s. EliminatePromise root s (now (work .entry)) r (now (work .exit))) ⌝ }
+{
+    match counts(asked, header) {
         Checked::Refused(refusal) => Eliminated::Refused(refusal),
         Checked::Accepted {
             functions: _,
             predicates: _,
         } => {
             if work.len() < 21056 {
-                Eliminated::Refused(Refusal::ShortWork)
-            } else {
-                let last = two_at(problem, 6) - 1;
-                let mut images = [0u16; 256];
-                let mut apps = [0u8; 40];
-                let mut owns = [0u16; 40];
-                let all = lay_table(problem, work, &mut images, &mut apps, &mut owns);
-                Eliminated::Table {
-                    nodes: all.nodes,
-                    root: number(images[last]),
-                }
+                return Eliminated::Refused(Refusal::ShortWork);
+            }
+            let last = header.nodes - 1;
+            let mut images = [0u16; 256];
+            let mut apps = [0u8; 40];
+            let mut owns = [0u16; 40];
+            let all = lay_table(asked, header, work, &mut images, &mut apps, &mut owns);
+            Eliminated::Table {
+                nodes: all.nodes,
+                root: number(images[last]),
             }
         }
     }
@@ -56,20 +75,19 @@ pub fn eliminate(problem: &[u8], work: &mut [u8]) -> Eliminated
 // stood there before.
 pub fn lay_table(
     problem: &[u8],
+    header: Header,
     work: &mut [u8],
     images: &mut [u16],
     apps: &mut [u8],
     owns: &mut [u16],
 ) -> Tally
-    requires { ⌜ Accepted (now problem) × (21056 ≤ length (now work)) × (length (now images) ≡ 256) × (length (now apps) ≡ 40) × (length (now owns) ≡ 40) ⌝ }
+    requires { ⌜ Accepted (now problem) × Shaped (now problem) header × (21056 ≤ length (now work)) × (length (now images) ≡ 256) × (length (now apps) ≡ 40) × (length (now owns) ≡ 40) ⌝ }
     ensures { λ r. ⌜ AllLaid (now (problem .entry)) (now (work .entry)) (laidOf (now (images .exit)) (now (apps .exit)) (now (owns .exit)) r) (now (work .exit)) ⌝ }
 {
-    let symbols = wide(problem[5]);
-    let nodes = two_at(problem, 6);
     let mut all = Tally::none();
     let mut k = 0;
-    while k < nodes {
-        let next = take_node(problem, symbols, nodes, k, work, images, apps, owns, all);
+    while k < header.nodes {
+        let next = take_node(problem, header, k, work, images, apps, owns, all);
         all = next;
         k += 1;
     }
@@ -79,8 +97,7 @@ pub fn lay_table(
 // Node k is taken: a copy, a repeat, whose image is that of the node repeated, or a distinct application.
 fn take_node(
     problem: &[u8],
-    symbols: usize,
-    nodes: usize,
+    header: Header,
     k: usize,
     work: &mut [u8],
     images: &mut [u16],
@@ -88,22 +105,22 @@ fn take_node(
     owns: &mut [u16],
     before: Tally,
 ) -> Tally
-    requires { ⌜ Accepted (now problem) × Shaped (now problem) symbols nodes × (k < nodes) × (21056 ≤ length (now work)) × LaidAt (now problem) k (laidOf (now images) (now apps) (now owns) before) ⌝ }
+    requires { ⌜ Accepted (now problem) × Shaped (now problem) header × (k < header .nodes) × (21056 ≤ length (now work)) × LaidAt (now problem) k (laidOf (now images) (now apps) (now owns) before) ⌝ }
     ensures { λ r. ⌜ LaidAt (now (problem .entry)) (k + 1) (laidOf (now (images .exit)) (now (apps .exit)) (now (owns .exit)) r) × StepLays (now (problem .entry)) k (now (work .entry)) (now (work .exit)) ⌝ }
 {
-    match problem[node_at(symbols, k)] {
-        0 | 6 => match earliest(problem, symbols, nodes, k) {
+    match problem[node_at(header, k)] {
+        0 | 6 => match earliest(problem, header, k) {
             Found::At(j) => {
                 images[k] = images[j];
                 before
             }
             Found::Nothing => {
-                add_application(problem, symbols, nodes, k, work, images, apps, owns, before)
+                add_application(problem, header, k, work, images, apps, owns, before)
             }
         },
         _ => {
             let count = before.nodes;
-            copy_node(problem, symbols, nodes, k, work, images, count);
+            copy_node(problem, header, k, work, images, count);
             images[k] = count as u16;
             before.laid(count + 1)
         }

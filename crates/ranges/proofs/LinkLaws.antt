@@ -19,6 +19,7 @@ use Rattle.definitions.specs.Ranges.{leaf, links, linked}
 use Rattle.theorems.proofs.Laws.Tests.{or-cases}
 use Rattle.ranges.specs.Sets.{inSet, ClassesAre, Apart, Merged}
 use Rattle.ranges.specs.Table.{TableIn, tableIn}
+use Rattle.ranges.specs.declared.Shape.{Shape}
 use Rattle.ranges.proofs.SetLaws.{in-or}
 use Rattle.ranges.proofs.LeafLaws.{Known, Leafy, leafy}
 use Rattle.ranges.proofs.TableLaws.{LeafSet, length-table, node-in, equation-in}
@@ -51,15 +52,18 @@ classes-all t N few sets p =
     (partition-same (linkedBefore t (length t)) (linked t) (λ u v. ap (any (links t u v)) (sym (take-length t))) N sets p)
 
 module _
-    (s : List ℕ)
-    (nodes N P : ℕ)
-    (w : TableIn s nodes N P)
+    {s : List ℕ}
+    {shape : Shape}
+    (w : TableIn s shape)
     (k : ℕ)
-    (h : k < nodes)
+    (h : k < shape .nodes)
     (sets : List ℕ)
-    (p : ClassesBefore (tableIn s nodes) N k sets) where
+    (p : ClassesBefore (tableIn s (shape .nodes)) (shape .variables) k sets) where
+  abbrev N : ℕ
+  N = shape .variables
+
   abbrev t : List Node
-  t = tableIn s nodes
+  t = tableIn s (shape .nodes)
 
   abbrev n : Node
   n = nodeAt s (8 * k)
@@ -69,9 +73,9 @@ module _
       → linkedBefore t (k + 1) u v
       ≡ linkedBefore t k u v || (b && (leaf t (n .a) u && leaf t (n .b) v || leaf t (n .a) v && leaf t (n .b) u))
   adds b q u v =
-      let l = length-table s nodes in
+      let l = length-table s (shape .nodes) in
       linked-next t k u v (omega arith)
-      ∙ ap (λ (m : Node). linkedBefore t k u v || links t u v m) (node-in s nodes k h)
+      ∙ ap (λ (m : Node). linkedBefore t k u v || links t u v m) (node-in s (shape .nodes) k h)
       ∙ ap (λ (c : Bool). linkedBefore t k u v || (c && (leaf t (n .a) u && leaf t (n .b) v || leaf t (n .a) v && leaf t (n .b) u))) q
 
   pub classes-kept : (n .op ≡ 2 → ⊥) → ClassesBefore t N (k + 1) sets
@@ -86,13 +90,13 @@ module _
       (leaf t (n .b)) ends (adds true (eq-eqb (n .op) 2 q)) low (l .0) (r .0) (l .1) (r .1)
     where
       o : Known t k (term ∷ term ∷ []) (fieldsOf n)
-      o = equation-in s nodes N P w k h q
+      o = equation-in w k h q
 
       left : Leafy N t (n .a)
-      left = leafy N P t (w .free) (n .a) (let i = o .0 in let j = length-table s nodes in omega arith)
+      left = leafy N (shape .truths) t (w .free) (n .a) (let i = o .0 in let j = length-table s (shape .nodes) in omega arith)
 
       right : Leafy N t (n .b)
-      right = leafy N P t (w .free) (n .b) (let i = o .2 .0 in let j = length-table s nodes in omega arith)
+      right = leafy N (shape .truths) t (w .free) (n .b) (let i = o .2 .0 in let j = length-table s (shape .nodes) in omega arith)
 
       l : (v : ℕ) × (leaf t (n .a) v ≡ true)
       l = left .some-leaf (o .1)

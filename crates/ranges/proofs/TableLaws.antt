@@ -11,6 +11,7 @@ use Rattle.definitions.specs.Problem.Ops.{term, formula, fieldsOf}
 use Rattle.definitions.specs.Ranges.{leaf}
 use Rattle.ranges.specs.Sets.{inSet}
 use Rattle.ranges.specs.Table.{TableIn, tableIn}
+use Rattle.ranges.specs.declared.Shape.{Shape}
 use Rattle.ranges.proofs.SetLaws.{in-none, in-one, in-or}
 use Rattle.ranges.proofs.LeafLaws.{
   Known,
@@ -42,31 +43,37 @@ node-in s nodes k h = node-from s 0 nodes k h ∙ ap (nodeAt s) (let e : 0 + 8 *
 abbrev pub LeafSet : List Node → ℕ → ℕ → Type 0
 LeafSet t k set = (v : ℕ) → inSet set v ≡ leaf t k v
 
-module _ (s : List ℕ) (nodes N P : ℕ) (w : TableIn s nodes N P) (k : ℕ) (h : k < nodes) where
+module _ {s : List ℕ} {shape : Shape} (w : TableIn s shape) (k : ℕ) (h : k < shape .nodes) where
+  abbrev N : ℕ
+  N = shape .variables
+
+  abbrev P : ℕ
+  P = shape .truths
+
   abbrev t : List Node
-  t = tableIn s nodes
+  t = tableIn s (shape .nodes)
 
   abbrev n : Node
   n = nodeAt s (8 * k)
 
   within : k < length t
-  within = let l = length-table s nodes in omega arith
+  within = let l = length-table s (shape .nodes) in omega arith
 
   pub variable-in : n .op ≡ 0 → n .sym < N
-  variable-in = variable-low N P t (w .free) k within n (node-in s nodes k h)
+  variable-in = variable-low N P t (w .free) k within n (node-in s (shape .nodes) k h)
 
   pub variable-set : n .op ≡ 0 → LeafSet t k (2 ^ n .sym)
-  variable-set q v = in-one (n .sym) v ∙ sym (variable-leaf N P t (w .free) k within n (node-in s nodes k h) q v)
+  variable-set q v = in-one (n .sym) v ∙ sym (variable-leaf N P t (w .free) k within n (node-in s (shape .nodes) k h) q v)
 
   pub choice-in : n .op ≡ 1 → Known t k (formula ∷ term ∷ term ∷ []) (fieldsOf n)
-  choice-in = choice-operands N P t (w .free) k within n (node-in s nodes k h)
+  choice-in = choice-operands N P t (w .free) k within n (node-in s (shape .nodes) k h)
 
   pub choice-set : n .op ≡ 1 → (x y : ℕ) → LeafSet t (n .b) x → LeafSet t (n .c) y → LeafSet t k (bitOr x y)
   choice-set q x y f g v =
-      in-or x y v ∙ ap₂ _||_ (f v) (g v) ∙ sym (choice-leaf N P t (w .free) k within n (node-in s nodes k h) q v)
+      in-or x y v ∙ ap₂ _||_ (f v) (g v) ∙ sym (choice-leaf N P t (w .free) k within n (node-in s (shape .nodes) k h) q v)
 
   pub other-set : (n .op ≡ 0 → ⊥) → (n .op ≡ 1 → ⊥) → LeafSet t k 0
-  other-set p q v = in-none v ∙ sym (other-leaf N P t (w .free) k within n (node-in s nodes k h) p q v)
+  other-set p q v = in-none v ∙ sym (other-leaf N P t (w .free) k within n (node-in s (shape .nodes) k h) p q v)
 
   pub equation-in : n .op ≡ 2 → Known t k (term ∷ term ∷ []) (fieldsOf n)
-  equation-in = equation-operands N P t (w .free) k within n (node-in s nodes k h)
+  equation-in = equation-operands N P t (w .free) k within n (node-in s (shape .nodes) k h)

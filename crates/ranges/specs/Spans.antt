@@ -10,6 +10,7 @@ use Rattle.definitions.specs.declared.Measured.{Measured}
 use Rattle.definitions.specs.declared.Ranges.{Ranges}
 use Rattle.ranges.specs.Table.{tableIn}
 use Rattle.ranges.specs.declared.sizes.Product.{Product}
+use Rattle.ranges.specs.declared.Shape.{Shape}
 use Rattle.ranges.specs.declared.Spans.{Spans}
 
 -- a product is given where it is at most 10^18
@@ -17,9 +18,9 @@ abbrev pub ProductIs : ℕ → Product → Type 0
 ProductIs n (Product.Of p) = (p ≡ n) × (n ≤ 10 ^ 18)
 ProductIs n Product.Big = 10 ^ 18 < n
 
-pub record SpansAre (bytes : List ℕ) (nodes variables truths : ℕ) (r : Spans) : Type 0 where
-  pub tops-are : r .tops ≡ padded (tops (tableIn bytes nodes) variables)
-  pub product-is : ProductIs (productOf (sizes (tops (tableIn bytes nodes) variables) truths)) (r .product)
+pub record SpansAre (bytes : List ℕ) (s : Shape) (r : Spans) : Type 0 where
+  pub tops-are : r .tops ≡ padded (tops (tableIn bytes (s .nodes)) (s .variables))
+  pub product-is : ProductIs (productOf (sizes (tops (tableIn bytes (s .nodes)) (s .variables)) (s .truths))) (r .product)
 
 -- a refusal has no tops
 abbrev pub noRanges : Refusal → Ranges

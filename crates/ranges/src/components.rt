@@ -4,6 +4,7 @@ ghost use mathlib.Core.Path.{_≡_};
 ghost use lib.ListN.{length};
 ghost use Rattle.ranges.specs.Sets.{LeavesAre, ClassesAre, Apart, UnionIs, Merged, inSet};
 ghost use Rattle.ranges.specs.Table.{TableIn, tableIn};
+use crate::Shape;
 use crate::leaves::only;
 use problem::bytes::two_at;
 
@@ -60,19 +61,13 @@ fn merge(sets: &mut [u32], these: u32)
 }
 
 // Each equation links every left leaf with every right leaf, so it makes one class of all their classes.
-pub fn classes(
-    table: &[u8],
-    nodes: usize,
-    variables: usize,
-    truths: usize,
-    leaves: &[u32],
-) -> [u32; 24]
-    requires { ⌜ TableIn (now table) nodes variables truths × LeavesAre (tableIn (now table) nodes) nodes (now leaves) × (nodes ≤ length (now leaves)) ⌝ }
-    ensures { λ r. ⌜ ClassesAre (tableIn (now (table .entry)) nodes) variables r × (length r ≡ 24) ⌝ }
+pub fn classes(table: &[u8], shape: Shape, leaves: &[u32]) -> [u32; 24]
+    requires { ⌜ TableIn (now table) shape × LeavesAre (tableIn (now table) (shape .nodes)) (shape .nodes) (now leaves) × (shape .nodes ≤ length (now leaves)) ⌝ }
+    ensures { λ r. ⌜ ClassesAre (tableIn (now (table .entry)) (shape .nodes)) (shape .variables) r × (length r ≡ 24) ⌝ }
 {
     let mut sets = alone();
     let mut k = 0;
-    while k < nodes {
+    while k < shape.nodes {
         let at = 8 * k;
         if table[at] == 2 {
             let left = two_at(table, at + 2);

@@ -4,6 +4,7 @@ ghost use mathlib.Core.Path.{_≡_};
 ghost use lib.ListN.{length};
 ghost use Rattle.ranges.specs.Sets.{LeavesAre};
 ghost use Rattle.ranges.specs.Table.{TableIn, tableIn};
+use crate::Shape;
 use problem::bytes::two_at;
 use problem::bytes::wide;
 
@@ -16,12 +17,12 @@ pub fn only(v: usize) -> u32
 }
 
 // The leaves of a variable node are itself, of a term choice those of its second and third operands.
-pub fn leaf_sets(table: &[u8], nodes: usize, variables: usize, truths: usize, sets: &mut [u32])
-    requires { ⌜ TableIn (now table) nodes variables truths × (nodes ≤ length (now sets)) ⌝ }
-    ensures { λ r. ⌜ LeavesAre (tableIn (now (table .entry)) nodes) nodes (now (sets .exit)) ⌝ }
+pub fn leaf_sets(table: &[u8], shape: Shape, sets: &mut [u32])
+    requires { ⌜ TableIn (now table) shape × (shape .nodes ≤ length (now sets)) ⌝ }
+    ensures { λ r. ⌜ LeavesAre (tableIn (now (table .entry)) (shape .nodes)) (shape .nodes) (now (sets .exit)) ⌝ }
 {
     let mut k = 0;
-    while k < nodes {
+    while k < shape.nodes {
         let at = 8 * k;
         let op = table[at];
         if op == 0 {

@@ -8,20 +8,20 @@ use lib.ListN.{length}
 use Rattle.theorems.proofs.Accepted.{length-nodesAt}
 use Rattle.theorems.proofs.Laws.Ops.{AllBelow}
 use Rattle.ranges.specs.Table.{TableIn, tableIn}
+use Rattle.ranges.specs.declared.Shape.{Shape}
 use Rattle.blocks.specs.Order.{posOf}
 use Rattle.blocks.proofs.Depends.{Each, operandsAt, operands-below}
 use Rattle.blocks.proofs.Levels.{level-operands}
 use Rattle.blocks.proofs.Onto.{pos-onto}
 use Rattle.blocks.proofs.Order.{pos-inside, pos-one, pos-operand}
 use Rattle.order.specs.Order.{levelIn, Arranged}
-use Rattle.order.specs.declared.Shape.{Shape}
 use Rattle.walk.specs.Reading.{InOrder, positionsIn}
 use Rattle.walk.proofs.Branching.{Ordering}
 
 module _
     (table : List ℕ)
     (s : Shape)
-    (tab : TableIn table (s .nodes) (s .variables) (s .truths))
+    (tab : TableIn table s)
     (fast : ℕ)
     (sizes positions starts : List ℕ)
     (arranged : Arranged table s fast sizes positions starts) where

@@ -17,6 +17,7 @@ use Rattle.theorems.proofs.Accepted.{length-nodesAt}
 use Rattle.theorems.proofs.Laws.Tests.{split}
 use Rattle.theorems.proofs.Search.Places.{Positive, after-within, digits-length}
 use Rattle.ranges.specs.Table.{TableIn, tableIn}
+use Rattle.ranges.specs.declared.Shape.{Shape}
 use Rattle.blocks.specs.Moves.{turning}
 use Rattle.blocks.specs.Levels.{levelOf}
 use Rattle.blocks.specs.Order.{startOf, posOf}
@@ -115,21 +116,30 @@ constant-laid S N F xs to before after r k =
     }
 
 module _
-    (table : List ℕ)
-    (nodes N P : ℕ)
-    (tab : TableIn table nodes N P)
+    {table : List ℕ}
+    {shape : Shape}
+    (tab : TableIn table shape)
     (fast slow : List ℕ)
     (fine : Positive slow)
-    (count-is : length fast + length slow ≡ N + P)
-    (digits-right : (p : ℕ) → Digits N P (digitsAfter (fast ++ slow) p))
+    (count-is : length fast + length slow ≡ shape .variables + shape .truths)
+    (digits-right : (p : ℕ) → Digits shape (digitsAfter (fast ++ slow) p))
     (S : ℕ)
     (room : productOf fast ≤ S)
     (pos : ℕ → ℕ)
-    (inside : (k : ℕ) → k < nodes → pos k < nodes)
+    (inside : (k : ℕ) → k < shape .nodes → pos k < shape .nodes)
     (bs : List ℕ)
-    (decoded : Decoded S pos table nodes N bs nodes) where
-  lane-digits : (q l : ℕ) → l < productOf fast → Digits N P (laneDigits fast slow q l)
-  lane-digits q l h = subst (Digits N P) (block-digits fast slow q l h) (digits-right (q * productOf fast + l))
+    (decoded : Decoded S pos table shape bs (shape .nodes)) where
+  abbrev nodes : ℕ
+  nodes = shape .nodes
+
+  abbrev N : ℕ
+  N = shape .variables
+
+  abbrev P : ℕ
+  P = shape .truths
+
+  lane-digits : (q l : ℕ) → l < productOf fast → Digits shape (laneDigits fast slow q l)
+  lane-digits q l h = subst (Digits shape) (block-digits fast slow q l h) (digits-right (q * productOf fast + l))
 
   lane-all : (q : ℕ) (cells : List ℕ) → DigitsHeld S N fast slow (digitsAfter slow q) cells → (l : ℕ) → l < productOf fast
       → LaneHolds S N (N + P) (laneDigits fast slow q l) cells l
@@ -139,18 +149,18 @@ module _
 
   -- THE LAW: where the nodes before the tail are fresh, and the tail is solved, the kept values equal values worked out afresh
   pub block-fresh : (q from : ℕ) (before cells : List ℕ) → SolvedFrom S bs from nodes before cells → Constant S cells
-      → DigitsHeld S N fast slow (digitsAfter slow q) cells → FreshBefore table nodes N S pos fast slow q from before
-      → KeptFresh table nodes N S pos fast slow q cells
+      → DigitsHeld S N fast slow (digitsAfter slow q) cells → FreshBefore table shape S pos fast slow q from before
+      → KeptFresh table shape S pos fast slow q cells
   block-fresh q from before cells solved constant d early =
       record {
         fresh =
             λ k g l h.
-            kept-fresh table nodes N P tab pos inside S bs before cells from decoded solved constant l (omega arith) (laneDigits fast slow q l)
+            kept-fresh tab pos inside S bs before cells from decoded solved constant l (omega arith) (laneDigits fast slow q l)
             (lane-all q cells d l h) (lane-digits q l h) (λ j b e. early .fresh j b e l h) k g;
       }
 
   -- at the first block nothing is asked: everything is worked out
-  pub fresh-none : (q : ℕ) (cells : List ℕ) → FreshBefore table nodes N S pos fast slow q 0 cells
+  pub fresh-none : (q : ℕ) (cells : List ℕ) → FreshBefore table shape S pos fast slow q 0 cells
   fresh-none q cells = record { fresh = λ k g e. absurd (omega arith) }
 
   module _ (level-place : (k : ℕ) → k < nodes → pos k ≡ posOf (levelOf N (length fast) (fast ++ slow) (tableIn table nodes)) nodes k) where
@@ -158,9 +168,9 @@ module _
     level = levelOf N (length fast) (fast ++ slow) (tableIn table nodes)
 
     -- nodes before the tail of the digit that turned have their value in the next block already: also where several digits turn back
-    pub fresh-next : (q : ℕ) (before after : List ℕ) → KeptFresh table nodes N S pos fast slow q before
+    pub fresh-next : (q : ℕ) (before after : List ℕ) → KeptFresh table shape S pos fast slow q before
         → ((i : ℕ) → S * 42 ≤ i → getD after i 0 ≡ getD before i 0)
-        → FreshBefore table nodes N S pos fast slow (suc q)
+        → FreshBefore table shape S pos fast slow (suc q)
         (startOf (levelOf N (length fast) (fast ++ slow) (tableIn table nodes)) nodes (length fast + turning slow (digitsAfter slow q))) after
     fresh-next q before after b same =
         record {

@@ -13,6 +13,7 @@ use Rattle.definitions.specs.Problem.Ops.{opOf, operandSorts, countOf, fieldsOf
 use Rattle.theorems.proofs.Accepted.{length-nodesAt}
 use Rattle.theorems.proofs.Laws.Ops.{AllBelow}
 use Rattle.ranges.specs.Table.{TableIn, tableIn}
+use Rattle.ranges.specs.declared.Shape.{Shape}
 use Rattle.blocks.proofs.Depends.{Each, operandsAt, operands-below}
 use Rattle.walk.specs.declared.branches.Branch.{Branch}
 use Rattle.walk.specs.Digits.{valueIn}
@@ -42,26 +43,29 @@ pub record Ordering (bytes : List ℕ) (nodes : ℕ) (pos : ℕ → ℕ) : Type 
 
 -- the operands of a node stand at positions below m, and so its branch reads cells before position m's
 module _
-    (bytes : List ℕ)
-    (nodes N P : ℕ)
-    (tab : TableIn bytes nodes N P)
+    {bytes : List ℕ}
+    {shape : Shape}
+    (tab : TableIn bytes shape)
     (pos : ℕ → ℕ)
     (k : ℕ)
-    (below : k < nodes)
+    (below : k < shape .nodes)
     (m : ℕ) where
+  abbrev N : ℕ
+  N = shape .variables
+
   abbrev t : List Node
-  t = tableIn bytes nodes
+  t = tableIn bytes (shape .nodes)
 
   abbrev n : Node
   n = node t k
 
   abbrev val : ℕ → ℕ
-  val i = valueIn bytes nodes N [] i
+  val i = valueIn bytes shape [] i
 
   by-op : (op : ℕ) → n .op ≡ op → Each (λ j. pos j < m) (take (countOf (operandSorts (opOf op) 0)) (fieldsOf n))
       → BranchBefore m (branchBy (cellAt pos) N n (opOf op))
   by-op zero q w =
-      let v = variable-named bytes nodes N P tab [] k below val (λ i h. refl) q in
+      let v = variable-named tab [] k below val (λ i h. refl) q in
       let few = tab .few-variables in
       one-before m (2 + n .sym) (omega arith)
   by-op (suc zero) q w =
@@ -83,7 +87,7 @@ module _
       let b = w .1 .0 in
       choice-before m (cellAt pos (n .a)) 1 (cellAt pos (n .b)) (omega arith) (omega arith) (omega arith)
   by-op (suc (suc (suc (suc (suc (suc zero)))))) q w =
-      let v = truth-named bytes nodes N P tab [] k below val (λ i h. refl) q in
+      let v = truth-named tab [] k below val (λ i h. refl) q in
       let few = tab .few-variables in
       let less = tab .few-truths in
       one-before m (2 + (N + n .sym)) (omega arith)
@@ -100,26 +104,27 @@ module _
   reads-before w = by-op (n .op) refl w
 
 -- in an order, the branch of node k reads only what is there before it
-pub branch-before : (bytes : List ℕ) (nodes N P : ℕ) (tab : TableIn bytes nodes N P) (pos : ℕ → ℕ) → Ordering bytes nodes pos
-    → (k : ℕ) → k < nodes → BranchBefore (pos k) (branchOf (cellAt pos) N (node (tableIn bytes nodes) k))
-branch-before bytes nodes N P tab pos ordering k below =
-    reads-before bytes nodes N P tab pos k below (pos k) (ordering .operands-first k below)
+pub branch-before : {bytes : List ℕ} {shape : Shape} (tab : TableIn bytes shape) (pos : ℕ → ℕ) → Ordering bytes (shape .nodes) pos
+    → (k : ℕ) → k < shape .nodes → BranchBefore (pos k) (branchOf (cellAt pos) (shape .variables) (node (tableIn bytes (shape .nodes)) k))
+branch-before tab pos ordering k below =
+    reads-before tab pos k below (pos k) (ordering .operands-first k below)
 
 each-below : (Q : ℕ → Type 0) (k : ℕ) → ((j : ℕ) → j < k → Q j) → (ks : List ℕ) → AllBelow k ks → Each Q ks
 each-below Q k f [] b = tt
 each-below Q k f (j ∷ ks) b = (f j (b .0), each-below Q k f ks (b .1))
 
 -- node k where it stands in the bytes: its operands in use, and its branch
-module _ (bytes : List ℕ) (nodes N P : ℕ) (tab : TableIn bytes nodes N P) (k : ℕ) (below : k < nodes) where
+module _ {bytes : List ℕ} {shape : Shape} (tab : TableIn bytes shape) (k : ℕ) (below : k < shape .nodes) where
   abbrev there : Node
   there = nodeAt bytes (8 * k)
 
-  node-there : node (tableIn bytes nodes) k ≡ there
-  node-there = node-here bytes nodes N P tab [] k below (valueIn bytes nodes N []) (λ i h. refl)
+  node-there : node (tableIn bytes (shape .nodes)) k ≡ there
+  node-there = node-here tab [] k below (valueIn bytes shape []) (λ i h. refl)
 
-  earlier-operands : AllBelow k (operandsAt (tableIn bytes nodes) k)
+  earlier-operands : AllBelow k (operandsAt (tableIn bytes (shape .nodes)) k)
   earlier-operands =
-      operands-below N P (tableIn bytes nodes) (tab .free) k (let l = length-nodesAt bytes 0 nodes in omega arith)
+      let l = length-nodesAt bytes 0 (shape .nodes) in
+      operands-below (shape .variables) (shape .truths) (tableIn bytes (shape .nodes)) (tab .free) k (omega arith)
 
   -- its operands in use are earlier nodes
   pub operands-there : (op : ℕ) → byteAt bytes (8 * k) ≡ op → AllBelow k (take (countOf (operandSorts (opOf op) 0)) (fieldsOf there))
@@ -130,30 +135,30 @@ module _ (bytes : List ℕ) (nodes N P : ℕ) (tab : TableIn bytes nodes N P) (k
   pub choice-operands : (byteAt bytes (8 * k) ≡ 1) ⊎ (byteAt bytes (8 * k) ≡ 9) → AllBelow k (fieldsOf there)
   choice-operands q = elim q [ inl p ↦ operands-there 1 p | inr p ↦ operands-there 9 p ]
 
-  module _ (pos : ℕ → ℕ) (b : Branch) (is : b ≡ branchOf (cellAt pos) N there) where
-    pub branch-there : b ≡ branchOf (cellAt pos) N (node (tableIn bytes nodes) k)
-    branch-there = is ∙ ap (branchOf (cellAt pos) N) (sym node-there)
+  module _ (pos : ℕ → ℕ) (b : Branch) (is : b ≡ branchOf (cellAt pos) (shape .variables) there) where
+    pub branch-there : b ≡ branchOf (cellAt pos) (shape .variables) (node (tableIn bytes (shape .nodes)) k)
+    branch-there = is ∙ ap (branchOf (cellAt pos) (shape .variables)) (sym node-there)
 
     -- where every node's position is below their number, it reads cells of nodes
-    pub branch-inside : ((j : ℕ) → j < nodes → pos j < nodes) → BranchBefore nodes b
+    pub branch-inside : ((j : ℕ) → j < shape .nodes → pos j < shape .nodes) → BranchBefore (shape .nodes) b
     branch-inside inside =
-        subst (BranchBefore nodes) (sym branch-there)
-        (reads-before bytes nodes N P tab pos k below nodes
-        (each-below (λ j. pos j < nodes) k (λ j h. inside j (omega arith)) (operandsAt (tableIn bytes nodes) k) earlier-operands))
+        subst (BranchBefore (shape .nodes)) (sym branch-there)
+        (reads-before tab pos k below (shape .nodes)
+        (each-below (λ j. pos j < shape .nodes) k (λ j h. inside j (omega arith)) (operandsAt (tableIn bytes (shape .nodes)) k) earlier-operands))
 
 earlier : (S m c at : ℕ) → at ≡ S * c → c < 42 + m → Earlier S m at
 earlier S m c at e h = let u : S * suc c ≤ S * (42 + m) = mul-le-mul-left S h in omega arith
 
 -- every position is ready: it is some node's
-pub all-ready : (S : ℕ) (bytes : List ℕ) (nodes N P : ℕ) (tab : TableIn bytes nodes N P) (pos : ℕ → ℕ) → Ordering bytes nodes pos
-    → (bs : List ℕ) → Decoded S pos bytes nodes N bs nodes → AllReady S bs nodes
-all-ready S bytes nodes N P tab pos ordering bs d m h =
+pub all-ready : (S : ℕ) {bytes : List ℕ} {shape : Shape} (tab : TableIn bytes shape) (pos : ℕ → ℕ) → Ordering bytes (shape .nodes) pos
+    → (bs : List ℕ) → Decoded S pos bytes shape bs (shape .nodes) → AllReady S bs (shape .nodes)
+all-ready S {shape = shape} tab pos ordering bs d m h =
     let w = ordering .onto m h in
     subst (Ready S bs) (w .2) (at-node (w .0) (w .1))
   where
-    at-node : (k : ℕ) → k < nodes → Ready S bs (pos k)
+    at-node : (k : ℕ) → k < shape .nodes → Ready S bs (pos k)
     at-node k l =
-        let b = branch-before bytes nodes N P tab pos ordering k l in
+        let b = branch-before tab pos ordering k l in
         let s = d .stored k l in
         record {
           left = earlier S (pos k) _ _ (s .left-is) (b .left);

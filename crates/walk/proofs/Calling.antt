@@ -11,10 +11,10 @@ use lib.ListN.{length, getD, take}
 use Rattle.definitions.specs.Places.{first}
 use Rattle.theorems.proofs.Laws.Tests.{split}
 use Rattle.ranges.specs.Table.{TableIn}
+use Rattle.ranges.specs.declared.Shape.{Shape}
 use Rattle.blocks.specs.Moves.{turning}
 use Rattle.blocks.specs.Order.{startOf}
 use Rattle.order.specs.Order.{levelIn, Arranged}
-use Rattle.order.specs.declared.Shape.{Shape}
 use Rattle.walk.specs.Cells.{cell, AllReady, Decoded, SlowLaid, FirstLane}
 use Rattle.walk.specs.Digits.{Turning, NextIs, SlowIs, PartsAre, fastOf}
 use Rattle.walk.specs.Keeping.{Setting, Walking, Begins}
@@ -58,10 +58,10 @@ lanes-fit S m nodes n at many lanes e h long few fit = let u = place-fits S m no
 
 -- everything is ready for the first block
 pub begins-with : (table : List ℕ) (plan : Plan) (o : Odometer) (positions bs mid cells : List ℕ) (r : Begun)
-    → TableIn table (plan .shape .nodes) (plan .shape .variables) (plan .shape .truths) → RootIn table (plan .shape .nodes) (plan .root)
-    → Starts (plan .shape .variables) (plan .shape .truths) o → PartsAre o (plan .shape .nodes) (plan .parts)
+    → TableIn table (plan .shape) → RootIn table (plan .shape) (plan .root)
+    → Starts (plan .shape) o → PartsAre o (plan .shape .nodes) (plan .parts)
     → Arranged table (plan .shape) (plan .parts .fast) (take (plan .shape .variables + plan .shape .truths) (o .sizes)) positions (r .starts)
-    → Decoded (16 * plan .parts .chunks) (positionsIn positions) table (plan .shape .nodes) (plan .shape .variables) bs (plan .shape .nodes)
+    → Decoded (16 * plan .parts .chunks) (positionsIn positions) table (plan .shape) bs (plan .shape .nodes)
     → SlowIs o (plan .parts .fast) (r .slow) → LanesReady (16 * plan .parts .chunks) (plan .shape .variables) (fastOf o (plan .parts)) mid
     → SlowLaid (16 * plan .parts .chunks) (plan .shape .variables) (plan .parts .fast) (r .slow .digits) (r .slow .count) mid cells
     → r .root ≡ 16 * plan .parts .chunks * (42 + positionsIn positions (plan .root)) → Begins table plan o positions bs cells r
@@ -82,7 +82,7 @@ root-found cells at at′ many lane e f = subst (λ a. FirstLane cells a many la
 module _ (table : List ℕ) (s : Shape) (root : ℕ) (o : Odometer) (p : Parts) (positions starts bs : List ℕ) (set : Setting table s root o p positions starts bs) where
   pub ready-all : AllReady (16 * p .chunks) bs (s .nodes)
   ready-all =
-      all-ready (16 * p .chunks) table (s .nodes) (s .variables) (s .truths) (set .table-in) (positionsIn positions)
+      all-ready (16 * p .chunks) (set .table-in) (positionsIn positions)
       (ordering table s (set .table-in) (p .fast) (take (s .variables + s .truths) (o .sizes)) positions starts (set .arranged)) bs (set .decoded)
 
   module _ (budget : ℕ) (cells : List ℕ) (now : Odometer) (tried from q : ℕ) (w : Walking table s root o p positions bs budget cells now tried from q)

@@ -12,6 +12,7 @@ use borrow.Author.Count.{below-more}
 use Rattle.definitions.specs.Problem.Node.{node, nodeAt}
 use Rattle.theorems.proofs.Laws.Tests.{split}
 use Rattle.ranges.specs.Table.{TableIn, tableIn}
+use Rattle.ranges.specs.declared.Shape.{Shape}
 use Rattle.walk.specs.declared.branches.Branch.{Branch}
 use Rattle.walk.specs.Cells.{branchOf, cellAt, Stored, Decoded}
 use Rattle.walk.specs.Reading.{InOrder, positionsIn}
@@ -84,14 +85,14 @@ module _ (S : ℕ) (bs : List ℕ) (m : ℕ) (b : Branch) where
       }
 
 -- node k's branch stored as well
-pub decoded-more : (S : ℕ) (positions table : List ℕ) (nodes N : ℕ) → InOrder positions nodes → (bs : List ℕ) (k : ℕ) (b : Branch)
-    → b ≡ branchOf (cellAt (positionsIn positions)) N (node (tableIn table nodes) k) → k < nodes → 4 * nodes ≤ length bs
-    → Decoded S (positionsIn positions) table nodes N bs k → Decoded S (positionsIn positions) table nodes N (laid S bs (getD positions k 0) b) (k + 1)
-decoded-more S positions table nodes N o bs k b e h long d =
+pub decoded-more : (S : ℕ) (positions table : List ℕ) (s : Shape) → InOrder positions (s .nodes) → (bs : List ℕ) (k : ℕ) (b : Branch)
+    → b ≡ branchOf (cellAt (positionsIn positions)) (s .variables) (node (tableIn table (s .nodes)) k) → k < s .nodes → 4 * s .nodes ≤ length bs
+    → Decoded S (positionsIn positions) table s bs k → Decoded S (positionsIn positions) table s (laid S bs (getD positions k 0) b) (k + 1)
+decoded-more S positions table s o bs k b e h long d =
     let p = o .inside k h in
     record {
       stored =
-          below-more (λ j. Stored S (laid S bs (getD positions k 0) b) (getD positions j 0) (branchOf (cellAt (positionsIn positions)) N (node (tableIn table nodes) j))) k
+          below-more (λ j. Stored S (laid S bs (getD positions k 0) b) (getD positions j 0) (branchOf (cellAt (positionsIn positions)) (s .variables) (node (tableIn table (s .nodes)) j))) k
           (λ j g.
           stored-other S bs (getD positions k 0) b (getD positions j 0) _ (λ q. let z = o .apart j k (omega arith) h q in omega arith) (d .stored j g))
           (subst (Stored S (laid S bs (getD positions k 0) b) (getD positions k 0)) e (stored-here S bs (getD positions k 0) b (omega arith)));
@@ -118,14 +119,14 @@ pub record Small (S : ℕ) (b : Branch) : Type 0 where
   pub apart : S * b .apart ≤ 65535
 
 -- so it is with a node's branch
-pub offsets : (chunks : ℕ) (positions table : List ℕ) (nodes N P : ℕ) → TableIn table nodes N P → InOrder positions nodes
-    → chunks * (42 + nodes) ≤ 4096 → (k : ℕ) → k < nodes → (b : Branch)
-    → b ≡ branchOf (cellAt (positionsIn positions)) N (nodeAt table (8 * k)) → Small (16 * chunks) b
-offsets chunks positions table nodes N P tab o few k h b is =
-    let w = branch-inside table nodes N P tab k h (positionsIn positions) b is (o .inside) in
+pub offsets : (chunks : ℕ) (positions : List ℕ) {table : List ℕ} {s : Shape} → TableIn table s → InOrder positions (s .nodes)
+    → chunks * (42 + s .nodes) ≤ 4096 → (k : ℕ) → k < s .nodes → (b : Branch)
+    → b ≡ branchOf (cellAt (positionsIn positions)) (s .variables) (nodeAt table (8 * k)) → Small (16 * chunks) b
+offsets chunks positions {s = s} tab o few k h b is =
+    let w = branch-inside tab k h (positionsIn positions) b is (o .inside) in
     record {
-      left = offset-small chunks (b .left) nodes (w .left) few;
-      right = offset-small chunks (b .right) nodes (w .right) few;
-      same = offset-small chunks (b .same) nodes (w .same) few;
-      apart = offset-small chunks (b .apart) nodes (w .apart) few;
+      left = offset-small chunks (b .left) (s .nodes) (w .left) few;
+      right = offset-small chunks (b .right) (s .nodes) (w .right) few;
+      same = offset-small chunks (b .same) (s .nodes) (w .same) few;
+      apart = offset-small chunks (b .apart) (s .nodes) (w .apart) few;
     }

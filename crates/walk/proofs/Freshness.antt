@@ -12,6 +12,7 @@ use Rattle.definitions.specs.Problem.Node.{Node, node}
 use Rattle.definitions.specs.Problem.Ops.{opOf}
 use Rattle.theorems.proofs.Laws.Tests.{split}
 use Rattle.ranges.specs.Table.{TableIn, tableIn}
+use Rattle.ranges.specs.declared.Shape.{Shape}
 use Rattle.walk.specs.declared.branches.Branch.{Branch}
 use Rattle.walk.specs.Cells.{cell, chosen, branchBy, branchOf, cellAt, Decoded, SolvedFrom, Constant, LaneHolds}
 use Rattle.walk.specs.Digits.{Digits, valueIn}
@@ -34,22 +35,28 @@ use Rattle.walk.proofs.Values.{
 }
 
 module _
-    (table : List ℕ)
-    (nodes N P : ℕ)
-    (tab : TableIn table nodes N P)
+    {table : List ℕ}
+    {shape : Shape}
+    (tab : TableIn table shape)
     (pos : ℕ → ℕ)
-    (inside : (k : ℕ) → k < nodes → pos k < nodes)
+    (inside : (k : ℕ) → k < shape .nodes → pos k < shape .nodes)
     (S : ℕ)
     (bs before cells : List ℕ)
     (from : ℕ)
-    (decoded : Decoded S pos table nodes N bs nodes)
-    (solved : SolvedFrom S bs from nodes before cells)
+    (decoded : Decoded S pos table shape bs (shape .nodes))
+    (solved : SolvedFrom S bs from (shape .nodes) before cells)
     (constant : Constant S cells)
     (l : ℕ)
     (low : l < S)
     (ds : List ℕ)
-    (holds : LaneHolds S N (N + P) ds cells l)
-    (digits : Digits N P ds) where
+    (holds : LaneHolds S (shape .variables) (shape .variables + shape .truths) ds cells l)
+    (digits : Digits shape ds) where
+  abbrev nodes : ℕ
+  nodes = shape .nodes
+
+  abbrev N : ℕ
+  N = shape .variables
+
   abbrev at : ℕ → ℕ
   at c = cell S cells c l
 
@@ -57,7 +64,7 @@ module _
   val k = at (42 + pos k)
 
   abbrev value : ℕ → ℕ
-  value k = valueIn table nodes N ds k
+  value k = valueIn table shape ds k
 
   abbrev takes : Branch → ℕ
   takes b = chosen (at (b .left)) (at (b .right)) (at (b .same)) (at (b .apart))
@@ -87,39 +94,39 @@ module _
     takes-value : (op : ℕ) → n .op ≡ op → takes (branchBy (cellAt pos) N n (opOf op)) ≡ value k
     takes-value zero q =
         itself (2 + n .sym) (value k)
-        (holds .variable (n .sym) (variable-named table nodes N P tab ds k below val known q) ∙ at-variable table nodes N P tab ds k below val known q)
-    takes-value (suc zero) q = where-one (n .a) (val (n .b)) (val (n .c)) (value k) (at-choice table nodes N P tab ds k below val known q)
+        (holds .variable (n .sym) (variable-named tab ds k below val known q) ∙ at-variable tab ds k below val known q)
+    takes-value (suc zero) q = where-one (n .a) (val (n .b)) (val (n .c)) (value k) (at-choice tab ds k below val known q)
     takes-value (suc (suc zero)) q =
         chosen-is (val (n .a)) (val (n .b)) (at 1) (at 0) (value k)
-        (λ e. constant .yes l low ∙ at-equal table nodes N P tab ds k below val known q e)
-        (λ e. constant .no l low ∙ at-differ table nodes N P tab ds k below val known q e)
+        (λ e. constant .yes l low ∙ at-equal tab ds k below val known q e)
+        (λ e. constant .no l low ∙ at-differ tab ds k below val known q e)
     takes-value (suc (suc (suc zero))) q =
-        let w = at-not table nodes N P tab ds k below val known q in
+        let w = at-not tab ds k below val known q in
         where-one (n .a) (at 0) (at 1) (value k) (λ e. constant .no l low ∙ w .0 e, λ e. constant .yes l low ∙ w .1 e)
     takes-value (suc (suc (suc (suc zero)))) q =
-        let w = at-and table nodes N P tab ds k below val known q in
+        let w = at-and tab ds k below val known q in
         where-one (n .a) (val (n .b)) (at 0) (value k) (w .0, λ e. constant .no l low ∙ w .1 e)
     takes-value (suc (suc (suc (suc (suc zero))))) q =
-        let w = at-or table nodes N P tab ds k below val known q in
+        let w = at-or tab ds k below val known q in
         where-one (n .a) (at 1) (val (n .b)) (value k) (λ e. constant .yes l low ∙ w .0 e, w .1)
     takes-value (suc (suc (suc (suc (suc (suc zero)))))) q =
         itself (2 + (N + n .sym)) (value k)
-        ((let h = truth-named table nodes N P tab ds k below val known q in holds .truth (N + n .sym) (omega arith) (omega arith))
-        ∙ at-truth table nodes N P tab ds k below val known digits q)
+        ((let h = truth-named tab ds k below val known q in holds .truth (N + n .sym) (omega arith) (omega arith))
+        ∙ at-truth tab ds k below val known digits q)
     takes-value (suc (suc (suc (suc (suc (suc (suc zero))))))) q =
-        itself 1 (value k) (constant .yes l low ∙ at-yes table nodes N P tab ds k below val known q)
+        itself 1 (value k) (constant .yes l low ∙ at-yes tab ds k below val known q)
     takes-value (suc (suc (suc (suc (suc (suc (suc (suc zero)))))))) q =
-        itself 0 (value k) (constant .no l low ∙ at-no table nodes N P tab ds k below val known q)
+        itself 0 (value k) (constant .no l low ∙ at-no tab ds k below val known q)
     takes-value (suc (suc (suc (suc (suc (suc (suc (suc (suc zero))))))))) q =
-        where-one (n .a) (val (n .b)) (val (n .c)) (value k) (at-select table nodes N P tab ds k below val known q)
+        where-one (n .a) (val (n .b)) (val (n .c)) (value k) (at-select tab ds k below val known q)
     takes-value (suc (suc (suc (suc (suc (suc (suc (suc (suc (suc op)))))))))) q =
-        absurd (no-other table nodes N P tab ds k below val known _ q refl)
+        absurd (no-other tab ds k below val known _ q refl)
 
     -- a solved position has its node's value, where every earlier node of the table has its own
-    pub solved-value : cell S cells (42 + pos k) l ≡ valueIn table nodes N ds k
+    pub solved-value : cell S cells (42 + pos k) l ≡ valueIn table shape ds k
     solved-value = by-branch ∙ takes-value (n .op) refl
 
-  module _ (early : (k : ℕ) → k < nodes → pos k < from → cell S before (42 + pos k) l ≡ valueIn table nodes N ds k) where
+  module _ (early : (k : ℕ) → k < nodes → pos k < from → cell S before (42 + pos k) l ≡ valueIn table shape ds k) where
     -- a node before the tail stays
     stays : (k : ℕ) → k < nodes → pos k < from → val k ≡ value k
     stays k h g =
@@ -135,5 +142,5 @@ module _
           | inr g ↦ solved-value k b g (λ i q. all-before m i (omega arith) (omega arith))
         ]
 
-    pub kept-fresh : (k : ℕ) → k < nodes → cell S cells (42 + pos k) l ≡ valueIn table nodes N ds k
+    pub kept-fresh : (k : ℕ) → k < nodes → cell S cells (42 + pos k) l ≡ valueIn table shape ds k
     kept-fresh k b = all-before (suc k) k (omega arith) b

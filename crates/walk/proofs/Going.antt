@@ -14,6 +14,7 @@ use Rattle.theorems.proofs.Laws.Tests.{split}
 use Rattle.theorems.proofs.Search.Places.{digits-length, product-positive}
 use Rattle.theorems.specs.Searched.{AllTrue}
 use Rattle.ranges.specs.Table.{tableIn}
+use Rattle.ranges.specs.declared.Shape.{Shape}
 use Rattle.blocks.specs.Moves.{turning}
 use Rattle.blocks.specs.Levels.{levelOf}
 use Rattle.blocks.specs.Order.{startOf}
@@ -21,7 +22,6 @@ use Rattle.blocks.proofs.Blocks.{topped-last, last-topped}
 use Rattle.blocks.proofs.Moves.{turning-topped, topped-turning}
 use Rattle.blocks.proofs.Order.{start-inside}
 use Rattle.order.specs.Order.{levelIn}
-use Rattle.order.specs.declared.Shape.{Shape}
 use Rattle.walk.specs.Cells.{cell, leastOf, SolvedFrom, SlowLaid, FirstLane}
 use Rattle.walk.specs.Digits.{Turning, NextIs, SlowIs, digitsOf, sizesIn, fastOf, slowOf}
 use Rattle.walk.specs.Kept.{KeptFresh, FreshBefore}
@@ -74,7 +74,7 @@ module _ (table : List ℕ) (s : Shape) (root : ℕ) (o : Odometer) (p : Parts) 
   slow = slowOf o p
 
   abbrev good : ℕ → Bool
-  good = rootTrue table nodes N root (sizesIn o)
+  good = rootTrue table s root (sizesIn o)
 
   F-is : length fast ≡ p .fast
   F-is = fast-length table s root o p positions starts bs set
@@ -117,7 +117,7 @@ module _ (table : List ℕ) (s : Shape) (root : ℕ) (o : Odometer) (p : Parts) 
                   ∙ ready .fast-held v b l h;
               slow-held = λ j b l h. slow-at j b l h many at-first t;
             };
-        early = fresh-none table nodes N (s .truths) (set .table-in) fast slow (fine table s root o p positions starts bs set) (both-length table s root o p positions starts bs set)
+        early = fresh-none (set .table-in) fast slow (fine table s root o p positions starts bs set) (both-length table s root o p positions starts bs set)
             (digits-right table s root o p positions starts bs set) S fits (positionsIn positions) (inside table s root o p positions starts bs set) bs (set .decoded) 0 cells;
       }
     where
@@ -131,9 +131,9 @@ module _ (table : List ℕ) (s : Shape) (root : ℕ) (o : Odometer) (p : Parts) 
   module _ (budget : ℕ) (cells : List ℕ) (now : Odometer) (tried from q : ℕ) (w : Walking table s root o p positions bs budget cells now tried from q)
       (after : List ℕ) (solved : SolvedFrom S bs from nodes cells after) where
     -- once the tail is solved, the kept values equal values worked out afresh
-    pub all-fresh : KeptFresh table nodes N S (positionsIn positions) fast slow q after
+    pub all-fresh : KeptFresh table s S (positionsIn positions) fast slow q after
     all-fresh =
-        block-fresh table nodes N (s .truths) (set .table-in) fast slow (fine table s root o p positions starts bs set) (both-length table s root o p positions starts bs set)
+        block-fresh (set .table-in) fast slow (fine table s root o p positions starts bs set) (both-length table s root o p positions starts bs set)
         (digits-right table s root o p positions starts bs set) S fits (positionsIn positions) (inside table s root o p positions starts bs set) bs (set .decoded) q from cells after solved
         (constant-solved S N fast slow (digitsAfter slow q) bs cells after from nodes solved (w .constant))
         (digits-solved S N fast slow (digitsAfter slow q) bs cells after from nodes solved few-digits fits (w .digits-held)) (w .early)
@@ -159,7 +159,7 @@ module _ (table : List ℕ) (s : Shape) (root : ℕ) (o : Odometer) (p : Parts) 
 
       -- the odometer ends, and so does the walk
       pub ends-there : step .ended ≡ true → (vals : List ℕ)
-          → WalkIs table nodes N (s .truths) root o (min budget (productOf (sizesIn o))) vals (record { tried = tried + many; falsified = false })
+          → WalkIs table s root o (min budget (productOf (sizesIn o))) vals (record { tried = tried + many; falsified = false })
       ends-there e vals =
           let t : turning slow (digitsAfter slow q) ≡ length slow = sym turned-is ∙ n .at-end e ∙ now-count in
           let last : suc q ≡ productOf slow = topped-last slow (fine table s root o p positions starts bs set) q (w .block-inside) (turning-topped slow (digitsAfter slow q) (digits-length slow q) t) in
@@ -201,8 +201,8 @@ module _ (table : List ℕ) (s : Shape) (root : ℕ) (o : Odometer) (p : Parts) 
                 (subst (λ F. SlowLaid S N F (step .odometer .digits) (turning slow (digitsAfter slow q) + 1) after final) (sym F-is)
                 (subst (λ x. SlowLaid S N (p .fast) (step .odometer .digits) (x + 1) after final) turned-is laid));
             early =
-                subst (λ m. FreshBefore table nodes N S (positionsIn positions) fast slow (suc q) m final) (sym (f ∙ start-same))
-                (fresh-next table nodes N (s .truths) (set .table-in) fast slow (fine table s root o p positions starts bs set) (both-length table s root o p positions starts bs set)
+                subst (λ m. FreshBefore table s S (positionsIn positions) fast slow (suc q) m final) (sym (f ∙ start-same))
+                (fresh-next (set .table-in) fast slow (fine table s root o p positions starts bs set) (both-length table s root o p positions starts bs set)
                 (digits-right table s root o p positions starts bs set) S fits (positionsIn positions) (inside table s root o p positions starts bs set) bs (set .decoded)
                 (level-place table s root o p positions starts bs set) q after final all-fresh high);
           })
@@ -244,7 +244,7 @@ module _ (table : List ℕ) (s : Shape) (root : ℕ) (o : Odometer) (p : Parts) 
 
   -- the budget is used up
   pub ends-spent : (budget : ℕ) (cells : List ℕ) (now : Odometer) (tried from q : ℕ) → Walking table s root o p positions bs budget cells now tried from q → budget ≤ tried → (vals : List ℕ)
-      → WalkIs table nodes N (s .truths) root o (min budget (productOf (sizesIn o))) vals (record { tried = tried; falsified = false })
+      → WalkIs table s root o (min budget (productOf (sizesIn o))) vals (record { tried = tried; falsified = false })
   ends-spent budget cells now tried from q w h vals =
       let r = w .passed in
       let b = w .block-inside in

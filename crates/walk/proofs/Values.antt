@@ -19,6 +19,7 @@ use Rattle.theorems.proofs.Laws.Ops.{Sorted, sortAt, operands-sorted, op-number
 use Rattle.theorems.proofs.Tables.Free.{namesOf, free-named, free-fits, free-fixed}
 use Rattle.problem.proofs.NodeLaws.{node-nodesAt}
 use Rattle.ranges.specs.Table.{TableIn, tableIn}
+use Rattle.ranges.specs.declared.Shape.{Shape}
 use Rattle.walk.specs.Digits.{Digits, valueIn}
 
 -- a truth value as a byte
@@ -30,7 +31,16 @@ byte-truth : (b : Bool) → byteOf (truth b) ≡ bit b
 byte-truth true = refl
 byte-truth false = refl
 
-module _ (bytes : List ℕ) (nodes N P : ℕ) (tab : TableIn bytes nodes N P) (ds : List ℕ) where
+module _ {bytes : List ℕ} {shape : Shape} (tab : TableIn bytes shape) (ds : List ℕ) where
+  abbrev nodes : ℕ
+  nodes = shape .nodes
+
+  abbrev N : ℕ
+  N = shape .variables
+
+  abbrev P : ℕ
+  P = shape .truths
+
   abbrev t : List Node
   t = tableIn bytes nodes
 
@@ -56,7 +66,7 @@ module _ (bytes : List ℕ) (nodes N P : ℕ) (tab : TableIn bytes nodes N P) (d
       let v = e ∙ op-truth A vs (opOf (node t i .op)) (node t i) _ s ∙ ap (λ (w : Value). truth (truthOf w)) (sym e) in
       ap byteOf v ∙ byte-truth (truthAt vs i)
 
-  module _ (k : ℕ) (below : k < nodes) (val : ℕ → ℕ) (known : (i : ℕ) → i < k → val i ≡ valueIn bytes nodes N ds i) where
+  module _ (k : ℕ) (below : k < nodes) (val : ℕ → ℕ) (known : (i : ℕ) → i < k → val i ≡ valueIn bytes shape ds i) where
     abbrev n : Node
     n = node t k
 
@@ -95,7 +105,7 @@ module _ (bytes : List ℕ) (nodes N P : ℕ) (tab : TableIn bytes nodes N P) (d
 
     -- node k by the number of its op
     value-here : (op : ℕ) → n .op ≡ op
-        → valueIn bytes nodes N ds k ≡ byteOf (opValue A vs (opOf op) n (map (numberAt vs) (take (countOf (operandSorts (opOf op) 0)) (fieldsOf n))))
+        → valueIn bytes shape ds k ≡ byteOf (opValue A vs (opOf op) n (map (numberAt vs) (take (countOf (operandSorts (opOf op) 0)) (fieldsOf n))))
     value-here op q =
         ap byteOf
         (free-fixed N P t (tab .free) k here A
@@ -110,7 +120,7 @@ module _ (bytes : List ℕ) (nodes N P : ℕ) (tab : TableIn bytes nodes N P) (d
     pub truth-named : n .op ≡ 6 → n .sym < P
     truth-named q = named 6 q
 
-    pub at-variable : n .op ≡ 0 → getD ds (n .sym) 0 + 1 ≡ valueIn bytes nodes N ds k
+    pub at-variable : n .op ≡ 0 → getD ds (n .sym) 0 + 1 ≡ valueIn bytes shape ds k
     at-variable q = (let e : getD ds (n .sym) 0 + 1 ≡ suc (getD ds (n .sym) 0) = omega arith in e) ∙ sym (value-here 0 q)
 
     bit-below : (d : ℕ) → d < 2 → d ≡ bit (eqb d 1)
@@ -118,16 +128,16 @@ module _ (bytes : List ℕ) (nodes N P : ℕ) (tab : TableIn bytes nodes N P) (d
     bit-below (suc zero) h = refl
     bit-below (suc (suc d)) h = absurd (omega arith)
 
-    pub at-truth : Digits N P ds → n .op ≡ 6 → getD ds (N + n .sym) 0 ≡ valueIn bytes nodes N ds k
+    pub at-truth : Digits shape ds → n .op ≡ 6 → getD ds (N + n .sym) 0 ≡ valueIn bytes shape ds k
     at-truth dg q =
         bit-below (getD ds (N + n .sym) 0) (dg .bits (n .sym) (truth-named q))
         ∙ sym (byte-truth (eqb (getD ds (N + n .sym) 0) 1))
         ∙ sym (value-here 6 q)
 
-    pub at-yes : n .op ≡ 7 → 1 ≡ valueIn bytes nodes N ds k
+    pub at-yes : n .op ≡ 7 → 1 ≡ valueIn bytes shape ds k
     at-yes q = sym (value-here 7 q)
 
-    pub at-no : n .op ≡ 8 → 0 ≡ valueIn bytes nodes N ds k
+    pub at-no : n .op ≡ 8 → 0 ≡ valueIn bytes shape ds k
     at-no q = sym (value-here 8 q)
 
     one-true : (b : Bool) → bit b ≡ 1 → b ≡ true
@@ -140,8 +150,8 @@ module _ (bytes : List ℕ) (nodes N P : ℕ) (tab : TableIn bytes nodes N P) (d
 
     -- the second operand where the first is true, else the third
     pub at-choice : n .op ≡ 1
-        → ((val (n .a) ≡ 1 → val (n .b) ≡ valueIn bytes nodes N ds k)
-        × ((val (n .a) ≡ 1 → ⊥) → val (n .c) ≡ valueIn bytes nodes N ds k))
+        → ((val (n .a) ≡ 1 → val (n .b) ≡ valueIn bytes shape ds k)
+        × ((val (n .a) ≡ 1 → ⊥) → val (n .c) ≡ valueIn bytes shape ds k))
     at-choice q =
         let w = operands 1 q (formula ∷ term ∷ term ∷ []) refl in
         let first = truth-at-hand (n .a) (w .0) (w .1) in (
@@ -154,12 +164,12 @@ module _ (bytes : List ℕ) (nodes N P : ℕ) (tab : TableIn bytes nodes N P) (d
         )
 
     pub at-select : n .op ≡ 9
-        → ((val (n .a) ≡ 1 → val (n .b) ≡ valueIn bytes nodes N ds k)
-        × ((val (n .a) ≡ 1 → ⊥) → val (n .c) ≡ valueIn bytes nodes N ds k))
+        → ((val (n .a) ≡ 1 → val (n .b) ≡ valueIn bytes shape ds k)
+        × ((val (n .a) ≡ 1 → ⊥) → val (n .c) ≡ valueIn bytes shape ds k))
     at-select q =
         let w = operands 9 q (formula ∷ formula ∷ formula ∷ []) refl in
         let first = truth-at-hand (n .a) (w .0) (w .1) in
-        let picked : (c : Bool) → truthAt vs (n .a) ≡ c → valueIn bytes nodes N ds k ≡ bit (cond c (truthAt vs (n .b)) (truthAt vs (n .c))) =
+        let picked : (c : Bool) → truthAt vs (n .a) ≡ c → valueIn bytes shape ds k ≡ bit (cond c (truthAt vs (n .b)) (truthAt vs (n .c))) =
         λ c e.
         value-here 9 q ∙ byte-truth (cond (truthAt vs (n .a)) (truthAt vs (n .b)) (truthAt vs (n .c)))
         ∙ ap (λ (d : Bool). bit (cond d (truthAt vs (n .b)) (truthAt vs (n .c)))) e
@@ -169,7 +179,7 @@ module _ (bytes : List ℕ) (nodes N P : ℕ) (tab : TableIn bytes nodes N P) (d
         )
 
     -- an equation
-    pub at-equal : n .op ≡ 2 → val (n .a) ≡ val (n .b) → 1 ≡ valueIn bytes nodes N ds k
+    pub at-equal : n .op ≡ 2 → val (n .a) ≡ val (n .b) → 1 ≡ valueIn bytes shape ds k
     at-equal q e =
         let w = operands 2 q (term ∷ term ∷ []) refl in
         sym
@@ -177,7 +187,7 @@ module _ (bytes : List ℕ) (nodes N P : ℕ) (tab : TableIn bytes nodes N P) (d
         ∙ ap (λ (c : Bool). byteOf (truth c))
         (eq-eqb (numberAt vs (n .a)) (numberAt vs (n .b)) (sym (number-at-hand (n .a) (w .0) (w .1)) ∙ e ∙ number-at-hand (n .b) (w .2 .0) (w .2 .1))))
 
-    pub at-differ : n .op ≡ 2 → (val (n .a) ≡ val (n .b) → ⊥) → 0 ≡ valueIn bytes nodes N ds k
+    pub at-differ : n .op ≡ 2 → (val (n .a) ≡ val (n .b) → ⊥) → 0 ≡ valueIn bytes shape ds k
     at-differ q e =
         let w = operands 2 q (term ∷ term ∷ []) refl in
         sym
@@ -186,7 +196,7 @@ module _ (bytes : List ℕ) (nodes N P : ℕ) (tab : TableIn bytes nodes N P) (d
         (ne-eqb (numberAt vs (n .a)) (numberAt vs (n .b)) (λ z. e (number-at-hand (n .a) (w .0) (w .1) ∙ z ∙ sym (number-at-hand (n .b) (w .2 .0) (w .2 .1))))))
 
     -- the connectives, by whether the first operand is true
-    pub at-not : n .op ≡ 3 → (val (n .a) ≡ 1 → 0 ≡ valueIn bytes nodes N ds k) × ((val (n .a) ≡ 1 → ⊥) → 1 ≡ valueIn bytes nodes N ds k)
+    pub at-not : n .op ≡ 3 → (val (n .a) ≡ 1 → 0 ≡ valueIn bytes shape ds k) × ((val (n .a) ≡ 1 → ⊥) → 1 ≡ valueIn bytes shape ds k)
     at-not q =
         let w = operands 3 q (formula ∷ []) refl in
         let first = truth-at-hand (n .a) (w .0) (w .1) in (
@@ -194,11 +204,11 @@ module _ (bytes : List ℕ) (nodes N P : ℕ) (tab : TableIn bytes nodes N P) (d
           λ e. sym (value-here 3 q ∙ ap (λ (c : Bool). byteOf (truth (not c))) (not-one (truthAt vs (n .a)) (λ z. e (first ∙ z)))),
         )
 
-    pub at-and : n .op ≡ 4 → (val (n .a) ≡ 1 → val (n .b) ≡ valueIn bytes nodes N ds k) × ((val (n .a) ≡ 1 → ⊥) → 0 ≡ valueIn bytes nodes N ds k)
+    pub at-and : n .op ≡ 4 → (val (n .a) ≡ 1 → val (n .b) ≡ valueIn bytes shape ds k) × ((val (n .a) ≡ 1 → ⊥) → 0 ≡ valueIn bytes shape ds k)
     at-and q =
         let w = operands 4 q (formula ∷ formula ∷ []) refl in
         let first = truth-at-hand (n .a) (w .0) (w .1) in
-        let by : (c : Bool) → truthAt vs (n .a) ≡ c → valueIn bytes nodes N ds k ≡ bit (c && truthAt vs (n .b)) =
+        let by : (c : Bool) → truthAt vs (n .a) ≡ c → valueIn bytes shape ds k ≡ bit (c && truthAt vs (n .b)) =
         λ c e.
         value-here 4 q ∙ byte-truth (truthAt vs (n .a) && truthAt vs (n .b)) ∙ ap (λ (d : Bool). bit (d && truthAt vs (n .b))) e
         in (
@@ -206,11 +216,11 @@ module _ (bytes : List ℕ) (nodes N P : ℕ) (tab : TableIn bytes nodes N P) (d
           λ e. sym (by false (not-one (truthAt vs (n .a)) (λ z. e (first ∙ z)))),
         )
 
-    pub at-or : n .op ≡ 5 → (val (n .a) ≡ 1 → 1 ≡ valueIn bytes nodes N ds k) × ((val (n .a) ≡ 1 → ⊥) → val (n .b) ≡ valueIn bytes nodes N ds k)
+    pub at-or : n .op ≡ 5 → (val (n .a) ≡ 1 → 1 ≡ valueIn bytes shape ds k) × ((val (n .a) ≡ 1 → ⊥) → val (n .b) ≡ valueIn bytes shape ds k)
     at-or q =
         let w = operands 5 q (formula ∷ formula ∷ []) refl in
         let first = truth-at-hand (n .a) (w .0) (w .1) in
-        let by : (c : Bool) → truthAt vs (n .a) ≡ c → valueIn bytes nodes N ds k ≡ bit (c || truthAt vs (n .b)) =
+        let by : (c : Bool) → truthAt vs (n .a) ≡ c → valueIn bytes shape ds k ≡ bit (c || truthAt vs (n .b)) =
         λ c e.
         value-here 5 q ∙ byte-truth (truthAt vs (n .a) || truthAt vs (n .b)) ∙ ap (λ (d : Bool). bit (d || truthAt vs (n .b))) e
         in (

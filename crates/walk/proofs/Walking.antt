@@ -20,13 +20,13 @@ use Rattle.theorems.proofs.Laws.Tests.{split}
 use Rattle.theorems.proofs.Search.Places.{Positive, after-within, productOf-append}
 use Rattle.theorems.specs.Searched.{AllTrue}
 use Rattle.ranges.specs.Table.{tableIn}
+use Rattle.ranges.specs.declared.Shape.{Shape}
 use Rattle.blocks.specs.Moves.{turning}
 use Rattle.blocks.specs.Levels.{levelOf}
 use Rattle.blocks.specs.Order.{posOf}
 use Rattle.blocks.proofs.Blocks.{block-digits}
 use Rattle.blocks.proofs.Stays.{within-at}
 use Rattle.order.specs.Order.{levelIn}
-use Rattle.order.specs.declared.Shape.{Shape}
 use Rattle.walk.specs.Cells.{cell, FirstLane, LaneCopied}
 use Rattle.walk.specs.Digits.{Digits, ValuesAre, valueIn, sizesIn, fastOf, slowOf}
 use Rattle.walk.specs.Kept.{laneDigits, KeptFresh}
@@ -93,7 +93,7 @@ module _ (table : List ℕ) (s : Shape) (root : ℕ) (o : Odometer) (p : Parts) 
   pos = positionsIn positions
 
   abbrev good : ℕ → Bool
-  good = rootTrue table nodes N root ss
+  good = rootTrue table s root ss
 
   abbrev limit : ℕ → ℕ
   limit budget = min budget (productOf ss)
@@ -134,9 +134,9 @@ module _ (table : List ℕ) (s : Shape) (root : ℕ) (o : Odometer) (p : Parts) 
   product-is = ap productOf (sym whole) ∙ productOf-append fast slow ∙ ap (λ w. w * productOf slow) (sym lanes-are)
 
   -- the digits of every place are in their ranges
-  pub digits-right : (t : ℕ) → Digits N (s .truths) (digitsAfter (fast ++ slow) t)
+  pub digits-right : (t : ℕ) → Digits s (digitsAfter (fast ++ slow) t)
   digits-right t =
-      subst (λ xs. Digits N (s .truths) (digitsAfter xs t)) (sym whole)
+      subst (λ xs. Digits s (digitsAfter xs t)) (sym whole)
       (record {
         bits =
             λ v h.
@@ -174,15 +174,15 @@ module _ (table : List ℕ) (s : Shape) (root : ℕ) (o : Odometer) (p : Parts) 
       let m : suc q * W ≤ productOf slow * W = mul-le-mul-right W a in
       omega arith
 
-  module _ (q : ℕ) (after : List ℕ) (kept : KeptFresh table nodes N S pos fast slow q after) where
-    lane-place : (l : ℕ) → l < W → (k : ℕ) → k < nodes → cell S after (42 + pos k) l ≡ valueIn table nodes N (digitsAt ss (q * W + l + 1)) k
+  module _ (q : ℕ) (after : List ℕ) (kept : KeptFresh table s S pos fast slow q after) where
+    lane-place : (l : ℕ) → l < W → (k : ℕ) → k < nodes → cell S after (42 + pos k) l ≡ valueIn table s (digitsAt ss (q * W + l + 1)) k
     lane-place l h k b =
-        kept .fresh k b l (let e = lanes-are in omega arith) ∙ ap (λ ds. valueIn table nodes N ds k) (sym (place-digits q l h))
+        kept .fresh k b l (let e = lanes-are in omega arith) ∙ ap (λ ds. valueIn table s ds k) (sym (place-digits q l h))
 
     root-byte : (l : ℕ) → l < W → cell S after (42 + pos root) l ≡ bit (good (q * W + l + 1))
     root-byte l h =
         let b = set .root-in .below in
-        lane-place l h root b ∙ truth-byte table nodes N (s .truths) (set .table-in) (digitsAt ss (q * W + l + 1)) root b (set .root-in .is-formula)
+        lane-place l h root b ∙ truth-byte (set .table-in) (digitsAt ss (q * W + l + 1)) root b (set .root-in .is-formula)
 
     zero-false : (b : Bool) → bit b ≡ 0 → b ≡ false
     zero-false true e = absurd (omega arith)
@@ -209,14 +209,14 @@ module _ (table : List ℕ) (s : Shape) (root : ℕ) (o : Odometer) (p : Parts) 
 
       -- the values at hand are those of the lane's place
       values-place : lane < many → (vals : List ℕ) → nodes ≤ length vals → LaneCopied S pos after lane nodes vals
-          → ValuesAre table nodes N (digitsAt ss (tried + lane + 1)) nodes vals
+          → ValuesAre table s (digitsAt ss (tried + lane + 1)) vals
       values-place h vals long copied =
           let ds = digitsAt ss (q * W + lane + 1) in
           let vs = values (assignment N ds) [] (tableIn table nodes) in
           let a = length-take-le nodes vals long in
           let b : length vs ≡ nodes = length-grown (nodeValue (assignment N ds) []) (tableIn table nodes) ∙ length-nodesAt table 0 nodes in
           let c = length-take-le nodes vs (omega arith) in
-          subst (λ t. ValuesAre table nodes N (digitsAt ss (t + lane + 1)) nodes vals) (sym at)
+          subst (λ t. ValuesAre table s (digitsAt ss (t + lane + 1)) vals) (sym at)
           (ext-getD 0 (take nodes vals) (map byteOf (take nodes vs)) (a ∙ sym (length-map (take nodes vs) byteOf ∙ c))
           (λ k g.
           getD-take nodes vals k 0 (omega arith) ∙ copied .copied k (omega arith) ∙ lane-place lane (omega arith) k (omega arith)
@@ -225,7 +225,7 @@ module _ (table : List ℕ) (s : Shape) (root : ℕ) (o : Odometer) (p : Parts) 
       -- a false root: the walk ends
       pub falsifies : (budget : ℕ) → q < productOf slow → many ≤ budget - tried → lane < many → (vals : List ℕ) → nodes ≤ length vals
           → LaneCopied S pos after lane nodes vals
-          → WalkIs table nodes N (s .truths) root o (min budget (productOf (sizesIn o))) vals (record { tried = tried + lane + 1; falsified = true })
+          → WalkIs table s root o (min budget (productOf (sizesIn o))) vals (record { tried = tried + lane + 1; falsified = true })
       falsifies budget low left h vals long copied =
           let u = place-inside q lane low (omega arith) in
           record {
@@ -241,7 +241,7 @@ module _ (table : List ℕ) (s : Shape) (root : ℕ) (o : Odometer) (p : Parts) 
 
   -- all lanes that are looked at are true
   pub ends-true : (budget tried : ℕ) → tried ≤ budget → tried ≤ productOf ss → (budget ≤ tried) ⊎ (productOf ss ≤ tried) → AllTrue good tried → (vals : List ℕ)
-      → WalkIs table nodes N (s .truths) root o (min budget (productOf (sizesIn o))) vals (record { tried = tried; falsified = false })
+      → WalkIs table s root o (min budget (productOf (sizesIn o))) vals (record { tried = tried; falsified = false })
   ends-true budget tried a b c held vals =
       let e : tried ≡ limit budget = least-is budget (productOf ss) tried a b c in
       record {

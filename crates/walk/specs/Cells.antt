@@ -12,6 +12,7 @@ use Rattle.definitions.specs.Places.{digitsAfter}
 use Rattle.definitions.specs.Problem.Node.{Node, node}
 use Rattle.definitions.specs.Problem.Ops.{Op, apply, choose, equal, negate, both, either, test, verum, falsum, select, unknown, opOf}
 use Rattle.ranges.specs.Table.{tableIn}
+use Rattle.ranges.specs.declared.Shape.{Shape}
 use Rattle.walk.specs.declared.branches.Branch.{Branch}
 
 -- cell c in lane l
@@ -59,8 +60,8 @@ pub record Stored (S : ℕ) (bs : List ℕ) (m : ℕ) (b : Branch) : Type 0 wher
   pub apart-is : getD bs (4 * m + 3) 0 ≡ S * b .apart
 
 -- the branches of the first k nodes of the table, each at its node's position
-pub record Decoded (S : ℕ) (pos : ℕ → ℕ) (table : List ℕ) (nodes N : ℕ) (bs : List ℕ) (k : ℕ) : Type 0 where
-  pub stored : (j : ℕ) → j < k → Stored S bs (pos j) (branchOf (cellAt pos) N (node (tableIn table nodes) j))
+pub record Decoded (S : ℕ) (pos : ℕ → ℕ) (table : List ℕ) (s : Shape) (bs : List ℕ) (k : ℕ) : Type 0 where
+  pub stored : (j : ℕ) → j < k → Stored S bs (pos j) (branchOf (cellAt pos) (s .variables) (node (tableIn table (s .nodes)) j))
 
 -- lanes of a cell before position m's
 abbrev pub Earlier : ℕ → ℕ → ℕ → Type 0

@@ -10,23 +10,24 @@ use Rattle.definitions.specs.Places.{next, first, assignment}
 use Rattle.definitions.specs.Witness.{byteOf}
 use Rattle.theorems.proofs.Search.Places.{Within, Positive}
 use Rattle.ranges.specs.Table.{tableIn}
+use Rattle.ranges.specs.declared.Shape.{Shape}
 use Rattle.blocks.specs.Moves.{turning as moved}
 use Rattle.walk.specs.declared.odometer.Odometer.{Odometer}
 use Rattle.walk.specs.declared.odometer.Step.{Step}
 use Rattle.walk.specs.declared.split.Parts.{Parts}
 
 -- the digits of the truth variables are 0 or 1
-pub record Digits (variables truths : ℕ) (ds : List ℕ) : Type 0 where
-  pub bits : (v : ℕ) → v < truths → getD ds (variables + v) 0 < 2
+pub record Digits (s : Shape) (ds : List ℕ) : Type 0 where
+  pub bits : (v : ℕ) → v < s .truths → getD ds (s .variables + v) 0 < 2
 
 -- the value of node k at an assignment, as a byte
-abbrev pub valueIn : List ℕ → ℕ → ℕ → List ℕ → ℕ → ℕ
-valueIn table nodes variables ds k = byteOf (valueAt (values (assignment variables ds) [] (tableIn table nodes)) k)
+abbrev pub valueIn : List ℕ → Shape → List ℕ → ℕ → ℕ
+valueIn table s ds k = byteOf (valueAt (values (assignment (s .variables) ds) [] (tableIn table (s .nodes))) k)
 
--- the values of the first k nodes are those of the definition, as bytes
-abbrev pub ValuesAre : List ℕ → ℕ → ℕ → List ℕ → ℕ → List ℕ → Type 0
-ValuesAre table nodes variables ds k vals =
-    take k vals ≡ map byteOf (take k (values (assignment variables ds) [] (tableIn table nodes)))
+-- the values of the nodes are those of the definition, as bytes
+abbrev pub ValuesAre : List ℕ → Shape → List ℕ → List ℕ → Type 0
+ValuesAre table s ds vals =
+    take (s .nodes) vals ≡ map byteOf (take (s .nodes) (values (assignment (s .variables) ds) [] (tableIn table (s .nodes))))
 
 -- the digits in use, and their sizes
 abbrev pub digitsOf : Odometer → List ℕ

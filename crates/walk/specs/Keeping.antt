@@ -8,8 +8,8 @@ use Rattle.definitions.specs.Lists.{productOf}
 use Rattle.definitions.specs.Places.{digitsAfter}
 use Rattle.theorems.specs.Searched.{AllTrue}
 use Rattle.ranges.specs.Table.{TableIn}
+use Rattle.ranges.specs.declared.Shape.{Shape}
 use Rattle.order.specs.Order.{Arranged}
-use Rattle.order.specs.declared.Shape.{Shape}
 use Rattle.walk.specs.Cells.{Decoded, Constant, DigitsHeld}
 use Rattle.walk.specs.Digits.{Turning, PartsAre, digitsOf, sizesIn, fastOf, slowOf}
 use Rattle.walk.specs.Kept.{FreshBefore}
@@ -23,38 +23,38 @@ use Rattle.walk.specs.declared.split.Parts.{Parts}
 
 -- a table, its root, and an odometer at place 1 whose digits are split
 pub record Planned (table : List ℕ) (plan : Plan) (o : Odometer) : Type 0 where
-  pub table-in : TableIn table (plan .shape .nodes) (plan .shape .variables) (plan .shape .truths)
-  pub root-in : RootIn table (plan .shape .nodes) (plan .root)
-  pub begins : Starts (plan .shape .variables) (plan .shape .truths) o
+  pub table-in : TableIn table (plan .shape)
+  pub root-in : RootIn table (plan .shape) (plan .root)
+  pub begins : Starts (plan .shape) o
   pub parts-are : PartsAre o (plan .shape .nodes) (plan .parts)
 
 -- the walk of such a table: as many places as the budget allows
 abbrev pub PlanWalked : List ℕ → Plan → Odometer → ℕ → List ℕ → Walked → Type 0
 PlanWalked table plan o budget vals r =
-    WalkIs table (plan .shape .nodes) (plan .shape .variables) (plan .shape .truths) (plan .root) o (min budget (productOf (sizesIn o))) vals r
+    WalkIs table (plan .shape) (plan .root) o (min budget (productOf (sizesIn o))) vals r
 
 -- what holds all the while
 pub record Setting (table : List ℕ) (s : Shape) (root : ℕ) (o : Odometer) (p : Parts) (positions starts bs : List ℕ) : Type 0 where
-  pub table-in : TableIn table (s .nodes) (s .variables) (s .truths)
-  pub root-in : RootIn table (s .nodes) root
-  pub begins : Starts (s .variables) (s .truths) o
+  pub table-in : TableIn table s
+  pub root-in : RootIn table s root
+  pub begins : Starts s o
   pub parts-are : PartsAre o (s .nodes) p
   pub arranged : Arranged table s (p .fast) (take (s .variables + s .truths) (o .sizes)) positions starts
-  pub decoded : Decoded (16 * p .chunks) (positionsIn positions) table (s .nodes) (s .variables) bs (s .nodes)
+  pub decoded : Decoded (16 * p .chunks) (positionsIn positions) table s bs (s .nodes)
 
 pub record Walking (table : List ℕ) (s : Shape) (root : ℕ) (o : Odometer) (p : Parts) (positions bs : List ℕ) (budget : ℕ) (cells : List ℕ) (now : Odometer) (tried from q : ℕ) : Type 0 where
   pub reached : tried ≤ budget
   pub block-inside : q < productOf (slowOf o p)
   pub passed : tried ≤ q * p .lanes
   pub going : tried < budget → tried ≡ q * p .lanes
-  pub held : AllTrue (rootTrue table (s .nodes) (s .variables) root (sizesIn o)) tried
+  pub held : AllTrue (rootTrue table s root (sizesIn o)) tried
   pub turns : Turning now
   pub sizes-are : sizesIn now ≡ slowOf o p
   pub digits-are : digitsOf now ≡ digitsAfter (slowOf o p) q
   pub from-few : from ≤ s .nodes
   pub constant : Constant (16 * p .chunks) cells
   pub digits-held : DigitsHeld (16 * p .chunks) (s .variables) (fastOf o p) (slowOf o p) (digitsAfter (slowOf o p) q) cells
-  pub early : FreshBefore table (s .nodes) (s .variables) (16 * p .chunks) (positionsIn positions) (fastOf o p) (slowOf o p) q from cells
+  pub early : FreshBefore table s (16 * p .chunks) (positionsIn positions) (fastOf o p) (slowOf o p) q from cells
 
 -- the walk is ready for its first block
 pub record Begins (table : List ℕ) (plan : Plan) (o : Odometer) (positions bs cells : List ℕ) (r : Begun) : Type 0 where

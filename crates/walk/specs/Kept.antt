@@ -5,6 +5,7 @@ use Prim.Native.Nat.{ℕ, _+_, _<_}
 use mathlib.Core.List.{List, _++_}
 use Rattle.definitions.specs.Lists.{productOf}
 use Rattle.definitions.specs.Places.{digitsAfter}
+use Rattle.ranges.specs.declared.Shape.{Shape}
 use Rattle.walk.specs.Cells.{cell}
 use Rattle.walk.specs.Digits.{valueIn}
 
@@ -13,14 +14,14 @@ abbrev pub laneDigits : List ℕ → List ℕ → ℕ → ℕ → List ℕ
 laneDigits fast slow q l = digitsAfter fast l ++ digitsAfter slow q
 
 -- node k, at its position, has in every lane of block q the value that the definition gives it there
-abbrev pub FreshAt : List ℕ → ℕ → ℕ → ℕ → (ℕ → ℕ) → List ℕ → List ℕ → ℕ → List ℕ → ℕ → Type 0
-FreshAt table nodes N S pos fast slow q cells k =
-    (l : ℕ) → l < productOf fast → cell S cells (42 + pos k) l ≡ valueIn table nodes N (laneDigits fast slow q l) k
+abbrev pub FreshAt : List ℕ → Shape → ℕ → (ℕ → ℕ) → List ℕ → List ℕ → ℕ → List ℕ → ℕ → Type 0
+FreshAt table s S pos fast slow q cells k =
+    (l : ℕ) → l < productOf fast → cell S cells (42 + pos k) l ≡ valueIn table s (laneDigits fast slow q l) k
 
 -- every node has
-pub record KeptFresh (table : List ℕ) (nodes N S : ℕ) (pos : ℕ → ℕ) (fast slow : List ℕ) (q : ℕ) (cells : List ℕ) : Type 0 where
-  pub fresh : (k : ℕ) → k < nodes → FreshAt table nodes N S pos fast slow q cells k
+pub record KeptFresh (table : List ℕ) (s : Shape) (S : ℕ) (pos : ℕ → ℕ) (fast slow : List ℕ) (q : ℕ) (cells : List ℕ) : Type 0 where
+  pub fresh : (k : ℕ) → k < s .nodes → FreshAt table s S pos fast slow q cells k
 
 -- every node has that stands before a position
-pub record FreshBefore (table : List ℕ) (nodes N S : ℕ) (pos : ℕ → ℕ) (fast slow : List ℕ) (q from : ℕ) (cells : List ℕ) : Type 0 where
-  pub fresh : (k : ℕ) → k < nodes → pos k < from → FreshAt table nodes N S pos fast slow q cells k
+pub record FreshBefore (table : List ℕ) (s : Shape) (S : ℕ) (pos : ℕ → ℕ) (fast slow : List ℕ) (q from : ℕ) (cells : List ℕ) : Type 0 where
+  pub fresh : (k : ℕ) → k < s .nodes → pos k < from → FreshAt table s S pos fast slow q cells k

@@ -11,35 +11,36 @@ use Rattle.definitions.specs.Places.{first, digitsAt, assignment}
 use Rattle.theorems.proofs.Laws.Ops.{sortAt}
 use Rattle.theorems.specs.Searched.{AllTrue, FirstFalse}
 use Rattle.ranges.specs.Table.{tableIn}
+use Rattle.ranges.specs.declared.Shape.{Shape}
 use Rattle.walk.specs.Digits.{ValuesAre, Turning, digitsOf, sizesIn}
 use Rattle.walk.specs.declared.odometer.Odometer.{Odometer}
 use Rattle.walk.specs.declared.Walked.{Walked}
 
 -- the root is true at a place of the table
-abbrev pub rootTrue : List ℕ → ℕ → ℕ → ℕ → List ℕ → ℕ → Bool
-rootTrue table nodes variables root sizes p =
-    truthAt (values (assignment variables (digitsAt sizes p)) [] (tableIn table nodes)) root
+abbrev pub rootTrue : List ℕ → Shape → ℕ → List ℕ → ℕ → Bool
+rootTrue table s root sizes p =
+    truthAt (values (assignment (s .variables) (digitsAt sizes p)) [] (tableIn table (s .nodes))) root
 
 -- the root is a formula of the table
-pub record RootIn (table : List ℕ) (nodes root : ℕ) : Type 0 where
-  pub below : root < nodes
-  pub is-formula : sortAt (tableIn table nodes) root ≡ formula
+pub record RootIn (table : List ℕ) (s : Shape) (root : ℕ) : Type 0 where
+  pub below : root < s .nodes
+  pub is-formula : sortAt (tableIn table (s .nodes)) root ≡ formula
 
 -- the odometer stands at place 1, with a digit for each variable and truth variable
-pub record Starts (variables truths : ℕ) (o : Odometer) : Type 0 where
+pub record Starts (s : Shape) (o : Odometer) : Type 0 where
   pub turning : Turning o
-  pub count-is : o .count ≡ variables + truths
+  pub count-is : o .count ≡ s .variables + s .truths
   pub at-first : digitsOf o ≡ first (sizesIn o)
-  pub small : (v : ℕ) → v < variables → getD (o .sizes) v 0 ≤ 24
-  pub bits : (v : ℕ) → v < truths → getD (o .sizes) (variables + v) 0 ≡ 2
+  pub small : (v : ℕ) → v < s .variables → getD (o .sizes) v 0 ≤ 24
+  pub bits : (v : ℕ) → v < s .truths → getD (o .sizes) (s .variables + v) 0 ≡ 2
 
 -- the outcome of the walk, by whether it ended at a false place
 abbrev pub Ends : (ℕ → Bool) → ℕ → ℕ → Bool → Type 0
 Ends good limit tried true = FirstFalse good limit tried
 Ends good limit tried false = (tried ≡ limit) × AllTrue good limit
 
-pub record WalkIs (table : List ℕ) (nodes variables truths root : ℕ) (o : Odometer) (limit : ℕ) (vals : List ℕ) (r : Walked) : Type 0 where
-  pub ends : Ends (rootTrue table nodes variables root (sizesIn o)) limit (r .tried) (r .falsified)
+pub record WalkIs (table : List ℕ) (s : Shape) (root : ℕ) (o : Odometer) (limit : ℕ) (vals : List ℕ) (r : Walked) : Type 0 where
+  pub ends : Ends (rootTrue table s root (sizesIn o)) limit (r .tried) (r .falsified)
   -- where it is false, the values of that place are at hand
   pub values-are : r .falsified ≡ true
-      → ValuesAre table nodes variables (digitsAt (sizesIn o) (r .tried)) nodes vals
+      → ValuesAre table s (digitsAt (sizesIn o) (r .tried)) vals

@@ -8,10 +8,10 @@ ghost use Rattle.definitions.specs.Problem.Node.{nodeAt};
 ghost use Rattle.ranges.specs.Table.{TableIn};
 ghost use Rattle.walk.specs.Cells.{one, where-true, branchOf, cellAt, Decoded};
 ghost use Rattle.walk.specs.Reading.{InOrder, positionsIn};
-use order::Shape;
 use problem::bytes::number;
 use problem::bytes::two_at;
 use problem::bytes::wide;
+use ranges::Shape;
 
 // Where the left and the right cell are equal it is the cell same, else the cell apart.
 pub struct Branch {
@@ -54,7 +54,7 @@ fn cell_at(table: &[u8], at: usize, positions: &[u16]) -> usize
 }
 
 fn branch_at(table: &[u8], shape: Shape, k: usize, positions: &[u16]) -> Branch
-    requires { ⌜ TableIn (now table) (shape .nodes) (shape .variables) (shape .truths) × (k < shape .nodes) × (shape .nodes ≤ length (now positions)) ⌝ }
+    requires { ⌜ TableIn (now table) shape × (k < shape .nodes) × (shape .nodes ≤ length (now positions)) ⌝ }
     ensures { λ r. ⌜ r ≡ branchOf (cellAt (positionsIn (now (positions .entry)))) (shape .variables) (nodeAt (now (table .entry)) (8 * k)) ⌝ }
 {
     let at = 8 * k;
@@ -91,8 +91,8 @@ fn branch_at(table: &[u8], shape: Shape, k: usize, positions: &[u16]) -> Branch
 
 // For each branch, at its node's position, the places where the lanes of its four cells begin.
 pub fn decode(table: &[u8], shape: Shape, chunks: usize, positions: &[u16], branches: &mut [u16])
-    requires { ⌜ TableIn (now table) (shape .nodes) (shape .variables) (shape .truths) × InOrder (now positions) (shape .nodes) × (chunks * (42 + shape .nodes) ≤ 4096) × (4 * shape .nodes ≤ length (now branches)) ⌝ }
-    ensures { λ r. ⌜ Decoded (16 * chunks) (positionsIn (now (positions .entry))) (now (table .entry)) (shape .nodes) (shape .variables) (now (branches .exit)) (shape .nodes) ⌝ }
+    requires { ⌜ TableIn (now table) shape × InOrder (now positions) (shape .nodes) × (chunks * (42 + shape .nodes) ≤ 4096) × (4 * shape .nodes ≤ length (now branches)) ⌝ }
+    ensures { λ r. ⌜ Decoded (16 * chunks) (positionsIn (now (positions .entry))) (now (table .entry)) shape (now (branches .exit)) (shape .nodes) ⌝ }
 {
     let wide = 16 * chunks;
     let mut k = 0;

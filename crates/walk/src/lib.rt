@@ -20,9 +20,9 @@ use crate::lanes::values_of;
 use crate::odometer::Odometer;
 use crate::split::Parts;
 use crate::split::split;
-use order::Shape;
 use order::arrange;
 use problem::bytes::number;
+use ranges::Shape;
 
 pub mod branches;
 pub mod cells;
@@ -54,8 +54,8 @@ pub fn walk(
     budget: u64,
     values: &mut [u8],
 ) -> Walked
-    requires { ⌜ TableIn (now table) (shape .nodes) (shape .variables) (shape .truths) × RootIn (now table) (shape .nodes) root × Starts (shape .variables) (shape .truths) start × (shape .nodes ≤ length (now values)) ⌝ }
-    ensures { λ r. ⌜ WalkIs (now (table .entry)) (shape .nodes) (shape .variables) (shape .truths) root start (min budget (productOf (sizesIn start))) (now (values .exit)) r ⌝ }
+    requires { ⌜ TableIn (now table) shape × RootIn (now table) shape root × Starts shape start × (shape .nodes ≤ length (now values)) ⌝ }
+    ensures { λ r. ⌜ WalkIs (now (table .entry)) shape root start (min budget (productOf (sizesIn start))) (now (values .exit)) r ⌝ }
 {
     let parts = split(start, shape.nodes);
     let plan = Plan { shape, root, parts };

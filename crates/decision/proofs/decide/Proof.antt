@@ -1,47 +1,78 @@
--- `decide` answers as promised: a refusal of check, of a short buffer, or what comes of laying and searching. Assumes nothing.
+-- `decide` answers what refuses the root, or what is made of the problem asked: the whole problem, or the part that is laid in the room.
+-- Assumes nothing.
+use mathlib.Core.Path.{_≡_, sym, ap, _∙_, subst}
+use Prim.Native.Nat.{ℕ, _≤_}
+use native.Mathlib.Omega.{arith}
+use mathlib.Core.List.{List}
+use lib.ListN.{length, take, length-replicate}
+use lib.Seq.{length-take-le}
+use Rattle.definitions.specs.Problem.Asked.{asked}
+use Rattle.theorems.proofs.Accepted.{Formed}
+use Rattle.theorems.proofs.Asked.Formed.{asked-formed}
+use Rattle.problem.specs.Shape.{Shaped}
+use Rattle.asked.proofs.Asking.{itself, ask-refused, ask-whole, ask-part, root-refused}
+use Rattle.elimination.proofs.Promising.{refused-first}
+use Rattle.decision.proofs.Deciding.{refused-early, decide-refused}
 use borrow.Author.Needs.{needs}
-use lib.ListN.{length}
-use Rattle.elimination.proofs.Promising.{refused-by, not-refused, functions-answered, predicates-answered, refused-first, refused-short, taken}
-use Rattle.decision.proofs.Deciding.{refused-early, refused-witness, decide-refused}
 use Rattle.decision.proofs.decide.Statement.{statement}
 use Rattle.decision.proofs.decide.Tie as tie
 
-check-requires : tie.Need-check-requires
-check-requires c κs = search needs
+ask-requires : tie.Need-ask-requires
+ask-requires c κs = search needs
 
 enum-known-refusal : tie.Need-enum-known-refusal
 enum-known-refusal c = search needs
 
-enum-known-functions : tie.Need-enum-known-functions
-enum-known-functions c = search needs
+enum-known-header : tie.Need-enum-known-header
+enum-known-header c = search needs
+
+decide-asked-requires : tie.Need-decide-asked-requires
+decide-asked-requires c κs =
+    let whole = ask-whole (c .before .before .before .before .before .before .before .before .before .args .root) _ (c .before .before .before .before .before .ask .ensures) (c .before .before .before .header .given .1) in (whole .1, whole .2)
+
+enum-known-header-2 : tie.Need-enum-known-header-2
+enum-known-header-2 c = search needs
+
+slice-aggregate-trim : tie.Need-slice-aggregate-trim
+slice-aggregate-trim c = search needs
+
+trim-requires : tie.Need-trim-requires
+trim-requires c κs =
+    let part = ask-part (c .before .before .before .before .before .before .before .before .args .root) _ (c .before .before .before .before .ask .ensures) (c .before .before .header2 .given .1) in
+    (part .0, part .1, omega (arith, length-replicate {A = ℕ} 2088 0))
+
+size-requires : tie.Need-size-requires
+size-requires c κs = let w = c .before .trim .ensures .shape in (w .few-symbols, w .few-nodes)
+
+-- the part is no longer than the room
+fits : (c : tie.After-size) → c .size .result ≤ length (c .before .before .trim .last .1 .1 .1 .0)
+fits c =
+    let w = c .before .before .trim .ensures .shape in
+    let kept = c .before .before .trim .kept .1 .1 .1 .0 in
+    omega (arith, c .size .ensures, w .few-symbols, w .few-nodes, length-replicate {A = ℕ} 2088 0)
+
+array-share-prefix-room : tie.Need-array-share-prefix-room
+array-share-prefix-room c = fits c
+
+-- and stands at its start
+asked-is : (c : tie.After-room3) → take (c .before .size .result) (c .before .before .before .trim .last .1 .1 .1 .0) ≡ asked (c .before .before .before .before .before .before .before .before .before .before .before .before .args .problem .now) (c .before .before .before .before .before .before .before .before .before .before .before .before .args .root)
+asked-is c = ap (λ (n : ℕ). take n (c .before .before .before .trim .last .1 .1 .1 .0)) (c .before .size .ensures) ∙ c .before .before .before .trim .ensures .bytes
+
+slice-aggregate-decide-asked : tie.Need-slice-aggregate-decide-asked
+slice-aggregate-decide-asked c = sym (length-take-le _ _ (fits (c .before)))
+
+decide-asked-requires-2 : tie.Need-decide-asked-requires-2
+decide-asked-requires-2 c κs =
+    let part = ask-part (c .before .before .before .before .before .before .before .before .before .before .before .before .before .before .args .root) _ (c .before .before .before .before .before .before .before .before .before .before .ask .ensures) (c .before .before .before .before .before .before .before .before .header2 .given .1) in
+    let is = sym (asked-is (c .before .before)) in (
+      subst Formed is (asked-formed _ _ (part .0)),
+      subst (λ (a : List ℕ). Shaped a (c .before .before .before .before .before .trim .result)) is (c .before .before .before .before .before .trim .ensures .shape),
+    )
 
 returns : tie.Need-returns
 returns c =
-    let s = c .before .before .before .before .before .before .before .before .args in
-    let none = not-refused (c .before .before .before .before .check .ensures) (c .before .before .functions .given .1) in
-    decide-refused (s .budget) (s .problem .now) (s .work .now) (s .witness .now) _
-    (refused-early (s .problem .now) (length (s .work .now)) (length (s .witness .now)) _ (refused-short _ _ none (c .if1 .taken)))
-
-returns-2 : tie.Need-returns-2
-returns-2 c =
-    let s = c .before .before .before .before .before .before .before .before .before .args in
-    let none = not-refused (c .before .before .before .before .before .check .ensures) (c .before .before .before .functions .given .1) in
-    decide-refused (s .budget) (s .problem .now) (s .work .now) (s .witness .now) _
-    (refused-witness (s .problem .now) (length (s .work .now)) (length (s .witness .now)) (taken _ _ none (c .before .if1 .left)) (c .if2 .taken))
-
-lay-and-search-requires : tie.Need-lay-and-search-requires
-lay-and-search-requires c κs =
-    let told = c .before .before .before .before .before in
-    let check = told .before .before .check .ensures in
-    let e = told .functions .given .1 in
-    (not-refused check e, c .before .before .before .if1 .left, c .before .before .if2 .left, functions-answered check e, predicates-answered check e)
-
-returns-3 : tie.Need-returns-3
-returns-3 c =
-    let s = c .before .before .before .before .before .before .before .args in
-    let some = refused-by (c .before .before .before .check .ensures) (c .before .refusal .given .1) in
-    decide-refused (s .budget) (s .problem .now) (s .work .now) (s .witness .now) _
-    (refused-early (s .problem .now) (length (s .work .now)) (length (s .witness .now)) _ (refused-first _ _ _ some))
+    let refused = ask-refused (c .before .before .before .before .before .before .before .args .root) _ (c .before .before .before .ask .ensures) (c .before .refusal .given .1) in
+    decide-refused _ _ _ _ _ _ (refused-early _ _ _ _ _ (refused-first _ _ _ _ (root-refused _ (c .before .before .before .before .before .before .before .args .root) _ refused)))
 
 same-length : tie.Need-same-length
 same-length c = search needs
@@ -49,20 +80,40 @@ same-length c = search needs
 same-length-2 : tie.Need-same-length-2
 same-length-2 c = search needs
 
-returns-4 : tie.Need-returns-4
-returns-4 c = search needs
+returns-2 : tie.Need-returns-2
+returns-2 c =
+    c .before .before .before .before .decide-asked .ensures _ _ (ask-whole (c .before .before .before .before .before .before .before .before .before .before .before .before .before .before .args .root) _ (c .before .before .before .before .before .before .before .before .before .before .ask .ensures) (c .before .before .before .before .before .before .before .before .header .given .1) .0)
+
+same-length-3 : tie.Need-same-length-3
+same-length-3 c = search needs
+
+same-length-4 : tie.Need-same-length-4
+same-length-4 c = search needs
+
+returns-3 : tie.Need-returns-3
+returns-3 c =
+    let part = ask-part (c .before .before .before .before .before .before .before .before .before .before .before .before .before .before .before .before .before .before .before .args .root) _ (c .before .before .before .before .before .before .before .before .before .before .before .before .before .before .before .ask .ensures) (c .before .before .before .before .before .before .before .before .before .before .before .before .before .header2 .given .1) in
+    c .before .before .before .before .decide-asked2 .ensures _ _ (itself _ _ _ (part .0) (asked-is (c .before .before .before .before .before .before .before)))
 
 pub decide-spec : {M : Type 1} → statement M
 decide-spec =
     tie.close
     (tie.spec
-    check-requires
+    ask-requires
     enum-known-refusal
-    enum-known-functions
+    enum-known-header
+    decide-asked-requires
+    enum-known-header-2
+    slice-aggregate-trim
+    trim-requires
+    size-requires
+    array-share-prefix-room
+    slice-aggregate-decide-asked
+    decide-asked-requires-2
     returns
-    returns-2
-    lay-and-search-requires
-    returns-3
     same-length
     same-length-2
-    returns-4)
+    returns-2
+    same-length-3
+    same-length-4
+    returns-3)

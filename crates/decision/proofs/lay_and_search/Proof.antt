@@ -8,9 +8,11 @@ use mathlib.Core.Option.{none}
 use lib.ListN.{length, length-replicate}
 use Rattle.definitions.specs.Ranges.{topsOf, product, padded}
 use Rattle.definitions.specs.Operations.Answers.{buffersRefusal}
-use Rattle.theorems.proofs.Accepted.{Accepted, accepted}
+use Rattle.theorems.specs.Asking.{Asks}
+use Rattle.theorems.proofs.Accepted.{Accepted, accept-limits}
 use Rattle.elimination.proofs.Promising.{taken, table-laid}
-use Rattle.ranges.specs.Spans.{ProductIs}
+use Rattle.ranges.specs.Table.{shapeOf}
+use Rattle.ranges.specs.Spans.{SpansAre, ProductIs}
 use Rattle.ranges.proofs.Measuring.{table-stands, tops-measured, product-measured}
 use Rattle.decision.proofs.Deciding.{buffers-taken, decide-big, decide-searched}
 use Rattle.decision.proofs.lay_and_search.Statement.{statement}
@@ -18,13 +20,14 @@ use Rattle.decision.proofs.lay_and_search.Tie as tie
 
 module _ (c : tie.Start) where
   abbrev bytes : List ℕ
-  bytes = c .args .problem .now
+  bytes = c .args .asked .now
 
   ok : Accepted bytes
-  ok = accepted bytes (c .pre .0)
+  ok = accept-limits bytes (c .pre .0) (c .pre .2)
 
-  fits : buffersRefusal bytes (length (c .args .work .now)) (length (c .args .witness .now)) ≡ none
-  fits = buffers-taken bytes (length (c .args .work .now)) (length (c .args .witness .now)) (taken bytes (length (c .args .work .now)) (c .pre .0) (c .pre .1)) (c .pre .2)
+  -- whatever root it is asked of, nothing but 13 is left to refuse it
+  fits : {s : List ℕ} {root : ℕ} → Asks s root bytes → buffersRefusal s root (length (c .args .work .now)) (length (c .args .witness .now)) ≡ none
+  fits {s} {root} A = buffers-taken s root _ _ (taken A _ (c .pre .2) (c .pre .3)) (c .pre .4)
 
 slice-aggregate-lay-table : tie.Need-slice-aggregate-lay-table
 slice-aggregate-lay-table c = search needs
@@ -39,6 +42,7 @@ lay-table-requires : tie.Need-lay-table-requires
 lay-table-requires c κs = (
   ok (c .before .before .before .before .before .before .before),
   c .before .before .before .before .before .before .before .pre .1,
+  c .before .before .before .before .before .before .before .pre .3,
   length-replicate {A = ℕ} 256 0,
   length-replicate {A = ℕ} 40 0,
   length-replicate {A = ℕ} 40 0,
@@ -50,29 +54,35 @@ module _ (c : tie.After-lay-table) where
   start = c .before .before .before .before .before .before .before .before
 
   abbrev work′ : List ℕ
-  work′ = c .lay-table .last .1 .0
+  work′ = c .lay-table .last .1 .1 .0
 
   long : 21056 ≤ length work′
-  long = let room = start .pre .1 in let same = c .lay-table .kept .1 .0 in omega arith
+  long = let room = start .pre .3 in let same = c .lay-table .kept .1 .1 .0 in omega arith
+
+shape-of-requires : tie.Need-shape-of-requires
+shape-of-requires c κs = search needs
 
 measure-requires : tie.Need-measure-requires
 measure-requires c κs =
-    let l = c .before .before .before .before .before .before in
-    table-stands (bytes (start l)) (ok (start l)) (l .lay-table .ensures) (long l) (start l .pre .3) (start l .pre .4)
+    let l = c .before .before .before .before .before .before .before in
+    rw (c .shape-of .ensures) (table-stands (bytes (start l)) (ok (start l)) (l .lay-table .ensures) (long l))
 
 -- and measured
 module _ (c : tie.After-measure) where
   abbrev laid : tie.After-lay-table
-  laid = c .before .before .before .before .before .before .before
+  laid = c .before .before .before .before .before .before .before .before
 
   abbrev first : tie.Start
   first = start laid
 
+  spans : SpansAre (work′ laid) (shapeOf (laid .lay-table .result)) (c .measure .result)
+  spans = rw (c .before .shape-of .ensures) at (c .measure .ensures)
+
   tops-are : c .measure .result .tops ≡ padded (topsOf (bytes first))
-  tops-are = tops-measured (bytes first) (ok first) (laid .lay-table .ensures) (long laid) (first .pre .3) (first .pre .4) (c .measure .ensures)
+  tops-are = tops-measured (bytes first) (ok first) (laid .lay-table .ensures) spans
 
   product-is : ProductIs (product (bytes first)) (c .measure .result .product)
-  product-is = product-measured (bytes first) (ok first) (laid .lay-table .ensures) (long laid) (first .pre .3) (first .pre .4) (c .measure .ensures)
+  product-is = product-measured (bytes first) (ok first) (laid .lay-table .ensures) spans
 
 enum-told : tie.Need-enum-told
 enum-told c = search needs
@@ -94,26 +104,24 @@ search-requires c κs =
       record {
         accepted = ok s;
         work = s .args .work .now;
-        owns = laid m .lay-table .last .1 .1 .1 .1 .0;
+        owns = laid m .lay-table .last .1 .1 .1 .1 .1 .0;
         laid = laid m .lay-table .ensures;
         table-long = long (laid m);
-        functions-are = s .pre .3;
-        predicates-are = s .pre .4;
         tops-are = tops-are m;
         places-are = is .0;
       },
-      s .pre .2,
+      s .pre .4,
     )
 
 same-length : tie.Need-same-length
 same-length c = search needs
 
 returns : tie.Need-returns
-returns c =
+returns c s root A =
     let m = c .before .before .before in
-    let s = first m in
-    decide-big (s .args .budget) (bytes s) (s .args .work .now) (s .args .witness .now) (fits s) (table-laid (bytes s) (ok s) (laid m .lay-table .ensures))
-    (subst (ProductIs (product (bytes s))) (c .enum-told .given .1) (product-is m))
+    let f = first m in
+    decide-big (f .args .budget) A (f .args .work .now) (f .args .witness .now) (fits f A) (table-laid (bytes f) (ok f) (laid m .lay-table .ensures))
+    (subst (ProductIs (product (bytes f))) (c .enum-told .given .1) (product-is m))
 
 same-length-2 : tie.Need-same-length-2
 same-length-2 c = search needs
@@ -122,11 +130,11 @@ same-length-3 : tie.Need-same-length-3
 same-length-3 c = search needs
 
 returns-2 : tie.Need-returns-2
-returns-2 c =
+returns-2 c s root A =
     let m = c .before .before .before .before .before .before .before .before .before .before .before in
-    let s = first m in
-    let is = subst (ProductIs (product (bytes s))) (c .before .before .before .before .before .before .before .before .size .given .1) (product-is m) in
-    decide-searched (s .args .budget) (bytes s) (s .args .work .now) (s .args .witness .now) (fits s) (table-laid (bytes s) (ok s) (laid m .lay-table .ensures))
+    let f = first m in
+    let is = subst (ProductIs (product (bytes f))) (c .before .before .before .before .before .before .before .before .size .given .1) (product-is m) in
+    decide-searched (f .args .budget) A (f .args .work .now) (f .args .witness .now) (fits f A) (table-laid (bytes f) (ok f) (laid m .lay-table .ensures))
     (is .1) (c .before .before .search .ensures)
 
 pub lay-and-search-spec : {M : Type 1} → statement M
@@ -137,6 +145,7 @@ lay-and-search-spec =
     slice-aggregate-lay-table-2
     slice-aggregate-lay-table-3
     lay-table-requires
+    shape-of-requires
     measure-requires
     enum-told
     enum-known-size

@@ -1,111 +1,110 @@
--- `eliminate` answers as promised: the refusal of check, that of a short work buffer, or the table that it lays.
--- Assumes nothing.
-use mathlib.Core.Path.{ap, _∙_}
-use Prim.Native.Nat.{ℕ, _-_}
+-- `eliminate` answers what refuses the root, or what is made of the problem asked: the whole problem, or the part that is laid in the
+-- room. Assumes nothing.
+use mathlib.Core.Path.{_≡_, sym, ap, _∙_, subst}
+use Prim.Native.Nat.{ℕ, _≤_}
 use native.Mathlib.Omega.{arith}
 use mathlib.Core.List.{List}
-use lib.ListN.{getD, length-replicate}
-use Rattle.theorems.proofs.Accepted.{Accepted}
-use Rattle.elimination.proofs.Promising.{refused-by, not-refused, is-accepted, refused-first, refused-short, taken}
-use Rattle.elimination.proofs.Promising.{refusal-promised, table-promised, nodes-laid, table-laid, root-laid}
+use lib.ListN.{length, take, length-replicate}
+use lib.Seq.{length-take-le}
+use Rattle.definitions.specs.Problem.Asked.{asked}
+use Rattle.theorems.proofs.Accepted.{Formed}
+use Rattle.theorems.proofs.Asked.Formed.{asked-formed}
+use Rattle.problem.specs.Shape.{Shaped}
+use Rattle.asked.proofs.Asking.{itself, ask-refused, ask-whole, ask-part, root-refused}
+use Rattle.elimination.proofs.Promising.{refused-first, refusal-promised}
 use borrow.Author.Needs.{needs}
 use Rattle.elimination.proofs.eliminate.Statement.{statement}
 use Rattle.elimination.proofs.eliminate.Tie as tie
 
-check-requires : tie.Need-check-requires
-check-requires c κs = search needs
+ask-requires : tie.Need-ask-requires
+ask-requires c κs = search needs
 
 enum-known-refusal : tie.Need-enum-known-refusal
 enum-known-refusal c = search needs
 
-enum-told : tie.Need-enum-told
-enum-told c = search needs
+enum-known-header : tie.Need-enum-known-header
+enum-known-header c = search needs
 
--- check has accepted the problem
-module _ (c : tie.After-enum-told) where
-  abbrev bytes : List ℕ
-  bytes = c .before .before .before .before .before .args .problem .now
+eliminate-asked-requires : tie.Need-eliminate-asked-requires
+eliminate-asked-requires c κs =
+    let whole = ask-whole (c .before .before .before .before .before .before .before .args .root) _ (c .before .before .before .before .ask .ensures) (c .before .before .header .given .1) in (whole .1, whole .2)
 
-  ok : Accepted bytes
-  ok = is-accepted (c .before .before .check .ensures) (c .enum-told .given .1)
+enum-known-header-2 : tie.Need-enum-known-header-2
+enum-known-header-2 c = search needs
 
-two-at-requires : tie.Need-two-at-requires
-two-at-requires c κs = omega (arith, ok (c .before) .header)
+slice-aggregate-trim : tie.Need-slice-aggregate-trim
+slice-aggregate-trim c = search needs
 
-sub-last : tie.Need-sub-last
-sub-last c = omega (arith, ok (c .before .before) .some-nodes, c .two-at .ensures .0)
+trim-requires : tie.Need-trim-requires
+trim-requires c κs =
+    let part = ask-part (c .before .before .before .before .before .before .before .args .root) _ (c .before .before .before .before .ask .ensures) (c .before .before .header2 .given .1) in
+    (part .0, part .1, omega (arith, length-replicate {A = ℕ} 2088 0))
 
-slice-aggregate-lay-table : tie.Need-slice-aggregate-lay-table
-slice-aggregate-lay-table c = search needs
+size-requires : tie.Need-size-requires
+size-requires c κs = let w = c .before .trim .ensures .shape in (w .few-symbols, w .few-nodes)
 
-slice-aggregate-lay-table-2 : tie.Need-slice-aggregate-lay-table-2
-slice-aggregate-lay-table-2 c = search needs
+-- the part is no longer than the room
+fits : (c : tie.After-size) → c .size .result ≤ length (c .before .before .trim .last .1 .1 .1 .0)
+fits c =
+    let w = c .before .before .trim .ensures .shape in
+    let kept = c .before .before .trim .kept .1 .1 .1 .0 in
+    omega (arith, c .size .ensures, w .few-symbols, w .few-nodes, length-replicate {A = ℕ} 2088 0)
 
-slice-aggregate-lay-table-3 : tie.Need-slice-aggregate-lay-table-3
-slice-aggregate-lay-table-3 c = search needs
+array-share-prefix-room : tie.Need-array-share-prefix-room
+array-share-prefix-room c = fits c
 
-lay-table-requires : tie.Need-lay-table-requires
-lay-table-requires c κs = (
-  ok (c .before .before .before .before .before .before),
-  c .before .before .before .before .before .if1 .left,
-  length-replicate {A = ℕ} 256 0,
-  length-replicate {A = ℕ} 40 0,
-  length-replicate {A = ℕ} 40 0,
-)
+-- and stands at its start
+asked-is : (c : tie.After-room3) → take (c .before .size .result) (c .before .before .before .trim .last .1 .1 .1 .0) ≡ asked (c .before .before .before .before .before .before .before .before .before .before .before .args .problem .now) (c .before .before .before .before .before .before .before .before .before .before .before .args .root)
+asked-is c = ap (λ (n : ℕ). take n (c .before .before .before .trim .last .1 .1 .1 .0)) (c .before .size .ensures) ∙ c .before .before .before .trim .ensures .bytes
 
-mul-number : tie.Need-mul-number
-mul-number c = search needs
+slice-aggregate-eliminate-asked : tie.Need-slice-aggregate-eliminate-asked
+slice-aggregate-eliminate-asked c = sym (length-take-le _ _ (fits (c .before)))
 
-array-read-number : tie.Need-array-read-number
-array-read-number c =
-    let read = c .before .before .before .before .before .before .before .before .before .before in
-    let accepted = ok (read .before .before) in
-    omega (arith, accepted .few-nodes, accepted .some-nodes, read .two-at .ensures .0)
-
-number-requires : tie.Need-number-requires
-number-requires c κs = search needs
+eliminate-asked-requires-2 : tie.Need-eliminate-asked-requires-2
+eliminate-asked-requires-2 c κs =
+    let part = ask-part (c .before .before .before .before .before .before .before .before .before .before .before .before .args .root) _ (c .before .before .before .before .before .before .before .before .before .ask .ensures) (c .before .before .before .before .before .before .before .header2 .given .1) in
+    let is = sym (asked-is (c .before)) in (
+      subst Formed is (asked-formed _ _ (part .0)),
+      subst (λ (a : List ℕ). Shaped a (c .before .before .before .before .trim .result)) is (c .before .before .before .before .trim .ensures .shape),
+    )
 
 returns : tie.Need-returns
 returns c =
-    let some = refused-by (c .before .before .before .check .ensures) (c .before .refusal .given .1) in
-    refusal-promised _ _ (refused-first _ _ _ some)
-
-returns-2 : tie.Need-returns-2
-returns-2 c =
-    let none = not-refused (c .before .before .before .check .ensures) (c .before .enum-told .given .1) in
-    refusal-promised _ _ (refused-short _ _ none (c .if1 .taken))
+    let refused = ask-refused (c .before .before .before .before .before .before .args .root) _ (c .before .before .before .ask .ensures) (c .before .refusal .given .1) in
+    refusal-promised _ _ _ (refused-first _ _ _ _ (root-refused _ (c .before .before .before .before .before .before .args .root) _ refused))
 
 same-length : tie.Need-same-length
 same-length c = search needs
 
+returns-2 : tie.Need-returns-2
+returns-2 c =
+    c .before .before .eliminate-asked .ensures _ _ (ask-whole (c .before .before .before .before .before .before .before .before .before .before .args .root) _ (c .before .before .before .before .before .before .before .ask .ensures) (c .before .before .before .before .before .header .given .1) .0)
+
+same-length-2 : tie.Need-same-length-2
+same-length-2 c = search needs
+
 returns-3 : tie.Need-returns-3
 returns-3 c =
-    let laid = c .before .before .before .before .before .before in
-    let told = laid .before .before .before .before .before .before .before in
-    let none = not-refused (told .before .before .check .ensures) (told .enum-told .given .1) in
-    let all = laid .lay-table .ensures in
-    let last = c .number .ensures ∙ ap (λ n. getD (laid .lay-table .last .1 .1 .0) (n - 1) 0) (laid .before .before .before .before .before .two-at .ensures .0) in
-    let long = laid .before .before .before .before .before .before .if1 .left in
-    table-promised _ _ (taken _ _ none long) (nodes-laid _ (ok told) all) (last ∙ root-laid _ (ok told) all)
-    (table-laid _ (ok told) all)
+    let part = ask-part (c .before .before .before .before .before .before .before .before .before .before .before .before .before .before .before .args .root) _ (c .before .before .before .before .before .before .before .before .before .before .before .before .ask .ensures) (c .before .before .before .before .before .before .before .before .before .before .header2 .given .1) in
+    c .before .before .eliminate-asked2 .ensures _ _ (itself _ _ _ (part .0) (asked-is (c .before .before .before .before)))
 
 pub eliminate-spec : {M : Type 1} → statement M
 eliminate-spec =
     tie.close
     (tie.spec
-    check-requires
+    ask-requires
     enum-known-refusal
-    enum-told
-    two-at-requires
-    sub-last
-    slice-aggregate-lay-table
-    slice-aggregate-lay-table-2
-    slice-aggregate-lay-table-3
-    lay-table-requires
-    mul-number
-    array-read-number
-    number-requires
+    enum-known-header
+    eliminate-asked-requires
+    enum-known-header-2
+    slice-aggregate-trim
+    trim-requires
+    size-requires
+    array-share-prefix-room
+    slice-aggregate-eliminate-asked
+    eliminate-asked-requires-2
     returns
-    returns-2
     same-length
+    returns-2
+    same-length-2
     returns-3)

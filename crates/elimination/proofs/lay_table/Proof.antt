@@ -12,55 +12,45 @@ use Rattle.definitions.specs.Operations.Buffers.{over}
 use Rattle.problem.specs.Shape.{Shaped}
 use Rattle.elimination.specs.State.{stateAt, laidOf, LaidAt}
 use Rattle.elimination.proofs.StateLaws.{laid-same, laid-none}
-use Rattle.elimination.proofs.Promising.{shaped}
 use Rattle.elimination.proofs.lay_table.Statement.{statement}
 use Rattle.elimination.proofs.lay_table.Tie as tie
 
 abbrev Inv-loop : tie.InvT-loop
-Inv-loop problem work₀ images₀ apps₀ owns₀ symbols nodes all₀ k₀ work images apps owns all k =
-    (k ≤ nodes)
+Inv-loop problem header work₀ images₀ apps₀ owns₀ all₀ k₀ work images apps owns all k =
+    (k ≤ header .nodes)
     × LaidAt problem k (laidOf images apps owns all)
     × (work ≡ over (tableBytes (stateAt problem k .out)) work₀)
     × (length work ≡ length work₀)
 
 abbrev μ-loop : tie.MeasureT-loop
-μ-loop problem work₀ images₀ apps₀ owns₀ symbols nodes all₀ k₀ work images apps owns all k = nodes - k
-
-shared-slice-read-wide : tie.Need-shared-slice-read-wide Inv-loop μ-loop
-shared-slice-read-wide c = search needs
-
-wide-requires : tie.Need-wide-requires Inv-loop μ-loop
-wide-requires c κs = search needs
-
-two-at-requires : tie.Need-two-at-requires Inv-loop μ-loop
-two-at-requires c κs = search needs
+μ-loop problem header work₀ images₀ apps₀ owns₀ all₀ k₀ work images apps owns all k = header .nodes - k
 
 none-requires : tie.Need-none-requires Inv-loop μ-loop
 none-requires c κs = search needs
 
 loop-holds : tie.Need-loop-holds Inv-loop μ-loop
 loop-holds c =
-    let st = c .before .before .before .before .before .before .before .before .before in
+    let st = c .before .before .before .before .before .before in
     let s = st .args .problem .now in
-    let none = laid-none s _ _ _ (st .pre .2) (st .pre .3) (st .pre .4) in
+    let none = laid-none s _ _ _ (st .pre .3) (st .pre .4) (st .pre .5) in
     (omega arith, laid-same (c .none .ensures) none, refl, refl)
 
--- the problem, and the header that was read
+-- the problem, and its header
 module _ (c : tie.At-loop Inv-loop μ-loop) where
   abbrev start : tie.Start Inv-loop μ-loop
-  start = c .before .before .before .before .before .before .before .before .before .before
+  start = c .before .before .before .before .before .before .before
 
   abbrev bytes : List ℕ
   bytes = start .args .problem .now
 
-  header : Shaped bytes (c .before .before .before .wide .result) (c .before .before .two-at .result)
-  header = shaped (start .pre .0) (c .before .before .before .wide .ensures .0) (c .before .before .two-at .ensures .0)
+  header : Shaped bytes (start .args .header)
+  header = start .pre .1
 
 take-node-requires : tie.Need-take-node-requires Inv-loop μ-loop
 take-node-requires c κs =
-    let at = c .before .before .before .before .before in
+    let at = c .before .before .before .before .before .before in
     let p = start at .pre in
-    (p .0, header at, c .before .before .before .before .loop-test .taken, omega (arith, p .1, at .loop .inv .3), at .loop .inv .1)
+    (p .0, header at, c .before .before .before .before .if1 .taken, omega (arith, p .2, at .loop .inv .3), at .loop .inv .1)
 
 add-k : tie.Need-add-k Inv-loop μ-loop
 add-k c = search needs
@@ -71,11 +61,11 @@ loop-less c = search needs
 loop-again : tie.Need-loop-again Inv-loop μ-loop
 loop-again c =
     let took = c .before .before .before .before .before .before .before .before in
-    let at = took .before .before .before .before .before .before in (
+    let at = took .before .before .before .before .before .before .before in (
       omega arith,
       took .take-node .ensures .0,
       took .take-node .ensures .1 _ (at .loop .inv .2),
-      took .take-node .kept .1 .1 .1 .1 .0 ∙ at .loop .inv .3,
+      took .take-node .kept .1 .1 .1 .0 ∙ at .loop .inv .3,
     )
 
 same-length : tie.Need-same-length Inv-loop μ-loop
@@ -83,18 +73,18 @@ same-length c = search needs
 
 -- the lists that are lent keep their lengths
 same-length-2 : tie.Need-same-length-2 Inv-loop μ-loop
-same-length-2 c = c .before .loop .inv .1 .images-long ∙ sym (start (c .before) .pre .2)
+same-length-2 c = c .before .before .loop .inv .1 .images-long ∙ sym (start (c .before .before) .pre .3)
 
 same-length-3 : tie.Need-same-length-3 Inv-loop μ-loop
-same-length-3 c = c .before .loop .inv .1 .apps-long ∙ sym (start (c .before) .pre .3)
+same-length-3 c = c .before .before .loop .inv .1 .apps-long ∙ sym (start (c .before .before) .pre .4)
 
 same-length-4 : tie.Need-same-length-4 Inv-loop μ-loop
-same-length-4 c = c .before .loop .inv .1 .owns-long ∙ sym (start (c .before) .pre .4)
+same-length-4 c = c .before .before .loop .inv .1 .owns-long ∙ sym (start (c .before .before) .pre .5)
 
 returns : tie.Need-returns Inv-loop μ-loop
 returns c =
-    let inv = c .before .loop .inv in
-    let all : c .before .loop .k ≡ nodeCount (bytes (c .before)) = omega (arith, header (c .before) .nodes-are, inv .0) in
+    let inv = c .before .before .loop .inv in
+    let all : c .before .before .loop .k ≡ nodeCount (bytes (c .before .before)) = omega (arith, header (c .before .before) .nodes-are, inv .0) in
     record { laid = rw all at (inv .1); work-after = rw all at (inv .2) }
 
 pub lay-table-spec : {M : Type 1} → statement M
@@ -103,9 +93,6 @@ lay-table-spec =
     (tie.spec
     Inv-loop
     μ-loop
-    shared-slice-read-wide
-    wide-requires
-    two-at-requires
     none-requires
     loop-holds
     take-node-requires

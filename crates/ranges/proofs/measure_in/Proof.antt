@@ -21,7 +21,7 @@ classes-requires : tie.Need-classes-requires
 classes-requires c κs =
     let l = c .before .before .before .leaf-sets in
     let s = c .before .before .before .before .before .before .before in
-    let same = l .kept .1 .1 .1 .1 .0 in
+    let same = l .kept .1 .1 .0 in
     let room = s .pre .1 in
     (s .pre .0, l .ensures, omega arith)
 
@@ -34,23 +34,23 @@ multiplied-requires c κs =
     let f = rankIn (c .before .classes .result) in (
       s .pre .0 .few-variables,
       s .pre .0 .few-truths,
-      λ v h. omega (arith, ap (λ (ts : List ℕ). getD ts v 0) (c .tops .ensures) ∙ padded-at f (s .args .variables) v h),
+      λ v h. omega (arith, ap (λ (ts : List ℕ). getD ts v 0) (c .tops .ensures) ∙ padded-at f (s .args .shape .variables) v h),
     )
 
 same-length : tie.Need-same-length
-same-length c = c .before .before .before .before .before .before .leaf-sets .kept .1 .1 .1 .1 .0
+same-length c = c .before .before .before .before .before .before .leaf-sets .kept .1 .1 .0
 
 returns : tie.Need-returns
 returns c =
     let a = c .before .before .before .before .before .before .before .before .before .before .args in
     let joined = c .before .before .classes in
-    let ranks = ranks-are (tableIn (a .table .now) (a .nodes)) (a .variables) (joined .result) (joined .ensures .0) in
+    let ranks = ranks-are (tableIn (a .table .now) (a .shape .nodes)) (a .shape .variables) (joined .result) (joined .ensures .0) in
     let shown = c .before .tops .ensures in
     record {
       tops-are = shown ∙ ap padded ranks;
       product-is =
-          subst (λ (ts : List ℕ). ProductIs (productOf (sizes ts (a .truths))) (c .multiplied .result))
-          (ap (take (a .variables)) shown ∙ take-padded (rankIn (joined .result)) (a .variables) ∙ ranks)
+          subst (λ (ts : List ℕ). ProductIs (productOf (sizes ts (a .shape .truths))) (c .multiplied .result))
+          (ap (take (a .shape .variables)) shown ∙ take-padded (rankIn (joined .result)) (a .shape .variables) ∙ ranks)
           (c .multiplied .ensures);
     }
 

@@ -6,16 +6,16 @@ use Rattle.decision.proofs.start.odometer.Statement.{statement}
 use Rattle.decision.proofs.start.odometer.Tie as tie
 
 abbrev Inv-loop : tie.InvT-loop
-Inv-loop tops variables truths count sizes₀ v₀ sizes v = Sized tops variables truths sizes v
+Inv-loop tops shape count sizes₀ v₀ sizes v = Sized tops shape sizes v
 
 abbrev μ-loop : tie.MeasureT-loop
-μ-loop tops variables truths count sizes₀ v₀ sizes v = count - v
+μ-loop tops shape count sizes₀ v₀ sizes v = count - v
 
 add-count : tie.Need-add-count Inv-loop μ-loop
-add-count c = let p = c .pre .1 in let q = c .pre .2 in omega arith
+add-count c = let p = c .before .pre .1 in let q = c .before .pre .2 in omega arith
 
 loop-holds : tie.Need-loop-holds Inv-loop μ-loop
-loop-holds c = sized-none (c .args .tops) (c .args .variables) (c .args .truths) (c .pre .1) (c .pre .2) (c .pre .3)
+loop-holds c = let s = c .before in sized-none (s .args .tops) (s .args .shape) (s .pre .1) (s .pre .2) (s .pre .3)
 
 size-at-requires : tie.Need-size-at-requires Inv-loop μ-loop
 size-at-requires c κs = c .before .loop .inv .few
@@ -39,15 +39,12 @@ loop-less c = omega arith
 
 loop-again : tie.Need-loop-again Inv-loop μ-loop
 loop-again c =
-    let s = c .before .before .before .args in
     let l = c .before .before .loop in
-    sized-more (s .tops) (s .variables) (s .truths) (l .sizes) (l .v) (l .inv) (c .before .loop-test .taken) (c .size-at .result) (c .size-at .ensures)
+    sized-more (l .inv) (c .before .loop-test .taken) (c .size-at .result) (c .size-at .ensures)
 
 returns : tie.Need-returns Inv-loop μ-loop
 returns c =
-    let s = c .before .before in
-    let l = c .before .loop in
-    beginning (s .args .tops) (s .args .variables) (s .args .truths) (l .sizes) (l .v) (l .inv) (c .loop-test .left) (s .pre .0)
+    beginning (c .before .loop .inv) (c .loop-test .left) (c .before .before .before .pre .0)
 
 pub odometer-spec : {M : Type 1} → statement M
 odometer-spec =

@@ -55,7 +55,7 @@ module _ (c : tie.After-wide) where
   q-is : q ≡ app start
   q-is = c .wide .ensures .0
 
-  q-node : q < start .args .nodes
+  q-node : q < start .args .header .nodes
   q-node =
       let earlier = laid start .app-before (start .args .i) (start .pre .3) in
       let nodes-are = start .pre .1 .nodes-are in

@@ -8,42 +8,35 @@ use lib.ListN.{length}
 use Rattle.definitions.specs.Problem.Check.{nodeCount}
 use Rattle.definitions.specs.Operations.Buffers.{over}
 use Rattle.elimination.proofs.Prefix.{apps-few}
-use Rattle.elimination.proofs.Promising.{shaped}
 use Rattle.decision.specs.Rows.{headBytes}
 use Rattle.decision.proofs.WitnessLaws.{Writing, rows-many, writing-none, writing-more, head-stands, witness-whole}
 use Rattle.decision.proofs.witness.write_witness.Statement.{statement}
 use Rattle.decision.proofs.witness.write_witness.Tie as tie
 
 abbrev Inv-loop : tie.InvT-loop
-Inv-loop problem images apps all values witness₀ symbols nodes count i₀ witness i = Writing problem values witness₀ count witness i
+Inv-loop problem images apps all values witness₀ header count i₀ witness i = Writing problem values witness₀ count witness i
 
 abbrev μ-loop : tie.MeasureT-loop
-μ-loop problem images apps all values witness₀ symbols nodes count i₀ witness i = count - i
+μ-loop problem images apps all values witness₀ header count i₀ witness i = count - i
 
 few : (c : tie.Start Inv-loop μ-loop) → c .args .all .count ≤ 40
 few c =
     let s = c .args .problem .now in
     omega (arith, apps-few s (c .pre .0) (nodeCount s) (omega arith), c .pre .1 .laid .count-is)
 
-shared-slice-read-wide : tie.Need-shared-slice-read-wide Inv-loop μ-loop
-shared-slice-read-wide c = omega (arith, c .before .before .before .before .before .before .pre .0 .header)
-
-wide-requires : tie.Need-wide-requires Inv-loop μ-loop
-wide-requires c κs = search needs
-
-two-at-requires : tie.Need-two-at-requires Inv-loop μ-loop
-two-at-requires c κs = omega (arith, c .before .before .before .before .before .before .before .pre .0 .header)
+header-of-requires : tie.Need-header-of-requires Inv-loop μ-loop
+header-of-requires c κs = search needs
 
 cast-put-head : tie.Need-cast-put-head Inv-loop μ-loop
 cast-put-head c = search needs
 
 put-head-requires : tie.Need-put-head-requires Inv-loop μ-loop
-put-head-requires c κs = let room = c .before .before .before .before .before .before .before .before .before .pre .3 in omega arith
+put-head-requires c κs = let room = c .before .before .before .before .before .before .before .pre .3 in omega arith
 
 -- after the head
 module _ (c : tie.After-put-head Inv-loop μ-loop) where
   abbrev start : tie.Start Inv-loop μ-loop
-  start = c .before .before .before .before .before .before .before .before .before .before
+  start = c .before .before .before .before .before .before .before .before
 
   abbrev count : ℕ
   count = start .args .all .count
@@ -76,7 +69,7 @@ write-row-requires c κs =
     let same = same-room put in
     let long = l .inv .long in (
       s .pre .0,
-      shaped (s .pre .0) (c .before .before .before .before .before .before .before .before .wide .ensures .0) (c .before .before .before .before .before .before .before .two-at .ensures .0),
+      put .before .before .header-of .ensures,
       s .pre .1,
       c .before .loop-test .taken,
       s .pre .2,
@@ -95,7 +88,7 @@ loop-again c =
     let put = c .before .before .before .before .before .before .before .before in
     let s = start put in
     writing-more (s .args .problem .now) (s .args .values .now) (w₀ put) (count put) (l .witness) (l .i) (l .inv) _ (c .before .before .before .before .loop-test .taken)
-    (c .before .before .write-row .kept .1 .1 .1 .1 .1 .1 .1 .1 .0) (c .before .before .write-row .ensures)
+    (c .before .before .write-row .kept .1 .1 .1 .1 .1 .1 .1 .0) (c .before .before .write-row .ensures)
 
 mul-result : tie.Need-mul-result Inv-loop μ-loop
 mul-result c = let f = few (start (c .before .before .before .before)) in omega arith
@@ -120,9 +113,7 @@ write-witness-spec =
     (tie.spec
     Inv-loop
     μ-loop
-    shared-slice-read-wide
-    wide-requires
-    two-at-requires
+    header-of-requires
     cast-put-head
     put-head-requires
     loop-holds

@@ -11,11 +11,11 @@ use Rattle.definitions.specs.Problem.Check.{nodeCount, nodesOf}
 use Rattle.theorems.proofs.Elimination.Steps.{ofOp}
 use Rattle.problem.proofs.NodeLaws.{node-stands}
 use Rattle.elimination.specs.State.{stateAt}
-use Rattle.elimination.specs.Tallied.{nextOf, tallied}
+use Rattle.elimination.specs.Tallied.{tallied}
 use Rattle.elimination.specs.declared.tally.Tally.{Tally}
 use Rattle.elimination.proofs.Prefix.{state-short}
 use Rattle.elimination.proofs.StateLaws.{laid-same}
-use Rattle.elimination.proofs.Counting.{count-small, place-left, next-number, application-added}
+use Rattle.elimination.proofs.Counting.{count-small, place-left, application-added}
 use borrow.Author.Needs.{needs}
 use Rattle.elimination.proofs.applications.add_application.Statement.{statement}
 use Rattle.elimination.proofs.applications.add_application.Tie as tie
@@ -25,9 +25,6 @@ node-at-requires c κs = search needs
 
 shared-slice-read-op : tie.Need-shared-slice-read-op
 shared-slice-read-op c = search needs
-
-next-requires : tie.Need-next-requires
-next-requires c κs = search needs
 
 -- node k of the problem
 module _ (c : tie.Start) where
@@ -66,42 +63,38 @@ op-read c =
     ap (λ (n : Node). n .op) (node-stands (st .pre .1) _ _ (c .node-at .ensures) (st .pre .2))
 
 lay-application-requires : tie.Need-lay-application-requires
-lay-application-requires c κs =
-    let st = c .before .before .before .before .before .before .before .before .before .before .before .before in
-    let p = st .pre in
-    let number = next-number (bytes st) (p .0) (k st) (within st) (p .5) (p .6) _ _ _ (tally st) (p .4) in
-    (p .0, p .1, p .2, p .3, p .4, p .5, p .6, c .before .before .before .before .next .ensures ∙ ap (nextOf (tally st)) (sym (op-read (c .before .before .before .before .before .before))) ∙ number)
+lay-application-requires c κs = search needs
 
 sub-image : tie.Need-sub-image
 sub-image c = search needs
 
 cast-apps : tie.Need-cast-apps
-cast-apps c = omega (arith, c .before .before .before .before .before .before .before .before .before .before .before .before .before .before .before .pre .1 .few-nodes)
+cast-apps c = omega (arith, c .before .before .before .before .before .before .before .before .before .before .before .before .before .before .pre .1 .few-nodes)
 
 slice-write-apps : tie.Need-slice-write-apps
-slice-write-apps c = let st = c .before .before .before .before .before .before .before .before .before .before .before .before .before .before .before in omega (arith, has-place st, st .pre .4 .apps-long)
+slice-write-apps c = let st = c .before .before .before .before .before .before .before .before .before .before .before .before .before .before in omega (arith, has-place st, st .pre .4 .apps-long)
 
 cast-owns : tie.Need-cast-owns
-cast-owns c = omega (arith, own-fits (c .before .before .before .before .before .before .before .before .before .before .before .before .before .before .before))
+cast-owns c = omega (arith, own-fits (c .before .before .before .before .before .before .before .before .before .before .before .before .before .before))
 
 mul-owns : tie.Need-mul-owns
-mul-owns c = omega (arith, has-place (c .before .before .before .before .before .before .before .before .before .before .before .before .before .before .before))
+mul-owns c = omega (arith, has-place (c .before .before .before .before .before .before .before .before .before .before .before .before .before .before))
 
 slice-write-owns : tie.Need-slice-write-owns
-slice-write-owns c = let st = c .before .before .before .before .before .before .before .before .before .before .before .before .before .before .before in omega (arith, has-place st, st .pre .4 .owns-long)
+slice-write-owns c = let st = c .before .before .before .before .before .before .before .before .before .before .before .before .before .before in omega (arith, has-place st, st .pre .4 .owns-long)
 
 cast-images : tie.Need-cast-images
-cast-images c = let st = c .before .before .before .before .before .before .before .before .before .before .before .before .before .before .before in omega (arith, own-fits st, next-fits st, c .before .before .lay-application .ensures .1)
+cast-images c = let st = c .before .before .before .before .before .before .before .before .before .before .before .before .before .before in omega (arith, own-fits st, next-fits st, c .before .before .lay-application .ensures .1)
 
 mul-images : tie.Need-mul-images
-mul-images c = omega (arith, c .before .before .before .before .before .before .before .before .before .before .before .before .before .before .before .pre .1 .few-nodes)
+mul-images c = omega (arith, c .before .before .before .before .before .before .before .before .before .before .before .before .before .before .pre .1 .few-nodes)
 
 slice-write-images : tie.Need-slice-write-images
-slice-write-images c = let st = c .before .before .before .before .before .before .before .before .before .before .before .before .before .before .before in omega (arith, st .pre .1 .few-nodes, st .pre .4 .images-long)
+slice-write-images c = let st = c .before .before .before .before .before .before .before .before .before .before .before .before .before .before in omega (arith, st .pre .1 .few-nodes, st .pre .4 .images-long)
 
 applied-requires : tie.Need-applied-requires
 applied-requires c κs =
-    let st = c .before .before .before .before .before .before .before .before .before .before .before .before .before .before .before in
+    let st = c .before .before .before .before .before .before .before .before .before .before .before .before .before .before in
     let laid = st .pre .4 in (
       omega (arith, has-place st),
       omega (arith, laid .functions-are, few st 0),
@@ -123,10 +116,10 @@ same-length-4 c = search needs
 returns : tie.Need-returns
 returns c =
     let laid = c .before .before .before .lay-application in
-    let st = c .before .before .before .before .before .before .before .before .before .before .before .before .before .before .before .before in
+    let st = c .before .before .before .before .before .before .before .before .before .before .before .before .before .before .before in
     let p = st .pre in
     let noted = application-added (bytes st) (p .0) (k st) (within st) (p .5) (p .6) _ _ _ (tally st) (p .4) (laid .result) (laid .ensures .1) in
-    let is = c .applied .ensures ∙ ap (λ op. tallied (tally st) op (laid .result)) (sym (op-read (c .before .before .before .before .before .before .before .before .before .before))) in
+    let is = c .applied .ensures ∙ ap (λ op. tallied (tally st) op (laid .result)) (sym (op-read (c .before .before .before .before .before .before .before .before .before))) in
     (laid-same is noted, laid .ensures .0)
 
 pub add-application-spec : {M : Type 1} → statement M
@@ -135,7 +128,6 @@ add-application-spec =
     (tie.spec
     node-at-requires
     shared-slice-read-op
-    next-requires
     lay-application-requires
     sub-image
     cast-apps

@@ -16,7 +16,7 @@ use Rattle.definitions.specs.Elimination.{App, choiceOp, sameSymbol}
 use Rattle.problem.specs.Stages.{oneSymbol}
 use Rattle.problem.proofs.NodeLaws.{node-stands}
 use Rattle.elimination.specs.State.{stateAt, appAt}
-use Rattle.elimination.proofs.Laying.{lays-as}
+use Rattle.problem.proofs.Laying.{lays-as}
 use Rattle.elimination.proofs.Prefix.{apps-few, room}
 use Rattle.elimination.proofs.Stepping.{next-app}
 use Rattle.elimination.proofs.Arguments.{few-arguments, arguments-read, arguments-given, own-small}
@@ -26,11 +26,11 @@ use Rattle.elimination.proofs.applications.lay_choices.Statement.{state
 use Rattle.elimination.proofs.applications.lay_choices.Tie as tie
 
 abbrev Inv-loop : tie.InvT-loop
-Inv-loop problem symbols nodes k work₀ images apps owns here arity xs choice at₀ i₀ work at i =
+Inv-loop problem header k work₀ images apps owns here arity xs choice at₀ i₀ work at i =
     Choosing problem k work₀ at₀ work at i
 
 abbrev μ-loop : tie.MeasureT-loop
-μ-loop problem symbols nodes k work₀ images apps owns here arity xs choice at₀ i₀ work at i = i
+μ-loop problem header k work₀ images apps owns here arity xs choice at₀ i₀ work at i = i
 
 node-at-requires : tie.Need-node-at-requires Inv-loop μ-loop
 node-at-requires c κs = search needs

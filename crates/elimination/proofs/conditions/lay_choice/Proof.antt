@@ -7,18 +7,18 @@ use Prim.Native.Nat.{ℕ}
 use lib.ListN.{take}
 use Rattle.definitions.specs.Problem.Node.{plain}
 use Rattle.definitions.specs.Elimination.{last, condition}
-use Rattle.elimination.proofs.Laying.{lays-node}
+use Rattle.problem.proofs.Laying.{lays-node}
 use Rattle.elimination.proofs.conditions.lay_choice.Statement.{statement}
 use Rattle.elimination.proofs.conditions.lay_choice.Tie as tie
 
 lay-condition-requires : tie.Need-lay-condition-requires
 lay-condition-requires c κs = search needs
 
-sub-lay : tie.Need-sub-lay
-sub-lay c = search needs
+sub-t12 : tie.Need-sub-t12
+sub-t12 c = search needs
 
-sub-lay-2 : tie.Need-sub-lay-2
-sub-lay-2 c = search needs
+sub-t13 : tie.Need-sub-t13
+sub-t13 c = search needs
 
 lay-requires : tie.Need-lay-requires
 lay-requires c κs = search needs
@@ -45,4 +45,4 @@ returns c =
 pub lay-choice-spec : {M : Type 1} → statement M
 lay-choice-spec =
     tie.close
-    (tie.spec lay-condition-requires sub-lay sub-lay-2 lay-requires add-result same-length returns)
+    (tie.spec lay-condition-requires sub-t12 sub-t13 lay-requires add-result same-length returns)

@@ -8,16 +8,16 @@ use lib.ListN.{take}
 use Rattle.definitions.specs.Problem.Node.{Node}
 use Rattle.definitions.specs.Elimination.{condition}
 use Rattle.elimination.specs.State.{three}
-use Rattle.elimination.proofs.Laying.{lays-on, lays-as}
+use Rattle.problem.proofs.Laying.{lays-on, lays-as}
 use Rattle.elimination.proofs.Pairwise.{condition-of}
 use Rattle.elimination.proofs.conditions.lay_condition.Statement.{statement}
 use Rattle.elimination.proofs.conditions.lay_condition.Tie as tie
 
-array-read-lay : tie.Need-array-read-lay
-array-read-lay c = search needs
+array-read-lay-further : tie.Need-array-read-lay-further
+array-read-lay-further c = search needs
 
-array-read-lay-2 : tie.Need-array-read-lay-2
-array-read-lay-2 c = search needs
+array-read-lay-further-2 : tie.Need-array-read-lay-further-2
+array-read-lay-further-2 c = search needs
 
 lay-requires : tie.Need-lay-requires
 lay-requires c κs = search needs
@@ -59,11 +59,11 @@ returns c =
 add-lay-further : tie.Need-add-lay-further
 add-lay-further c = search needs
 
-array-read-lay-further : tie.Need-array-read-lay-further
-array-read-lay-further c = search needs
+array-read-lay-further-3 : tie.Need-array-read-lay-further-3
+array-read-lay-further-3 c = search needs
 
-array-read-lay-further-2 : tie.Need-array-read-lay-further-2
-array-read-lay-further-2 c = search needs
+array-read-lay-further-4 : tie.Need-array-read-lay-further-4
+array-read-lay-further-4 c = search needs
 
 lay-further-requires : tie.Need-lay-further-requires
 lay-further-requires c κs = search needs
@@ -87,11 +87,11 @@ returns-2 c =
 add-lay-further-2 : tie.Need-add-lay-further-2
 add-lay-further-2 c = search needs
 
-array-read-lay-further-3 : tie.Need-array-read-lay-further-3
-array-read-lay-further-3 c = search needs
+array-read-lay-further-5 : tie.Need-array-read-lay-further-5
+array-read-lay-further-5 c = search needs
 
-array-read-lay-further-4 : tie.Need-array-read-lay-further-4
-array-read-lay-further-4 c = search needs
+array-read-lay-further-6 : tie.Need-array-read-lay-further-6
+array-read-lay-further-6 c = search needs
 
 lay-further-requires-2 : tie.Need-lay-further-requires-2
 lay-further-requires-2 c κs = search needs
@@ -117,22 +117,22 @@ pub lay-condition-spec : {M : Type 1} → statement M
 lay-condition-spec =
     tie.close
     (tie.spec
-    array-read-lay
-    array-read-lay-2
+    array-read-lay-further
+    array-read-lay-further-2
     lay-requires
     add-result
     same-length
     returns
     add-lay-further
-    array-read-lay-further
-    array-read-lay-further-2
+    array-read-lay-further-3
+    array-read-lay-further-4
     lay-further-requires
     add-result-2
     same-length-2
     returns-2
     add-lay-further-2
-    array-read-lay-further-3
-    array-read-lay-further-4
+    array-read-lay-further-5
+    array-read-lay-further-6
     lay-further-requires-2
     add-result-3
     same-length-3

@@ -5,18 +5,18 @@ use mathlib.Core.Path.{refl, sym, ap}
 use Prim.Native.Nat.{_-_}
 use Rattle.definitions.specs.Lists.{snoc}
 use Rattle.definitions.specs.Problem.Node.{plain}
-use Rattle.elimination.proofs.Laying.{lays-on, lays-as}
+use Rattle.problem.proofs.Laying.{lays-on, lays-as}
 use Rattle.elimination.proofs.conditions.lay_further.Statement.{statement}
 use Rattle.elimination.proofs.conditions.lay_further.Tie as tie
 
 lay-requires : tie.Need-lay-requires
 lay-requires c κs = search needs
 
-add-lay : tie.Need-add-lay
-add-lay c = search needs
-
 sub-lay : tie.Need-sub-lay
 sub-lay c = search needs
+
+add-lay : tie.Need-add-lay
+add-lay c = search needs
 
 lay-requires-2 : tie.Need-lay-requires-2
 lay-requires-2 c κs = search needs
@@ -34,4 +34,4 @@ returns c =
 
 pub lay-further-spec : {M : Type 1} → statement M
 lay-further-spec =
-    tie.close (tie.spec lay-requires add-lay sub-lay lay-requires-2 same-length returns)
+    tie.close (tie.spec lay-requires sub-lay add-lay lay-requires-2 same-length returns)

@@ -9,7 +9,6 @@ use Rattle.definitions.specs.Problem.Node.{Node, node}
 use Rattle.definitions.specs.Problem.Check.{nodeCount, symbolsOf, nodesOf}
 use Rattle.definitions.specs.Elimination.{State, copy}
 use Rattle.problem.proofs.NodeLaws.{node-stands}
-use Rattle.elimination.specs.Lays.{nodeOf}
 use Rattle.elimination.specs.State.{stateAt}
 use Rattle.elimination.proofs.Stepping.{step-lays, next-copy, copy-room}
 use borrow.Author.Needs.{needs}
@@ -22,17 +21,17 @@ images-of-requires c κs = search needs
 node-at-requires : tie.Need-node-at-requires
 node-at-requires c κs = search needs
 
-shared-slice-read-lay : tie.Need-shared-slice-read-lay
-shared-slice-read-lay c = search needs
+shared-slice-read-op : tie.Need-shared-slice-read-op
+shared-slice-read-op c = search needs
 
-array-read-lay : tie.Need-array-read-lay
-array-read-lay c = search needs
+array-read-t11 : tie.Need-array-read-t11
+array-read-t11 c = search needs
 
-array-read-lay-2 : tie.Need-array-read-lay-2
-array-read-lay-2 c = search needs
+array-read-t18 : tie.Need-array-read-t18
+array-read-t18 c = search needs
 
-array-read-lay-3 : tie.Need-array-read-lay-3
-array-read-lay-3 c = search needs
+array-read-t21 : tie.Need-array-read-t21
+array-read-t21 c = search needs
 
 -- node k of the problem: the step taken is a copy, for which there is room
 module _ (c : tie.Start) where
@@ -53,7 +52,7 @@ module _ (c : tie.Start) where
 
 -- a node of an op on three operands
 abbrev onThree : ℕ → List ℕ → Node
-onThree op xs = nodeOf op 0 (getD xs 0 0) (getD xs 1 0) (getD xs 2 0)
+onThree op xs = record { op = op; sym = 0; a = getD xs 0 0; b = getD xs 1 0; c = getD xs 2 0 }
 
 lay-requires : tie.Need-lay-requires
 lay-requires c κs =
@@ -69,7 +68,7 @@ returns c =
     let read = c .before .before .before in
     let st = read .before .before .before .before .before .before .before in
     let s = bytes st in
-    let stands = node-stands (st .pre .1) (k st) _ (read .before .node-at .ensures) (st .pre .2) in
+    let stands = node-stands (st .pre .1) (k st) _ (read .before .before .node-at .ensures) (st .pre .2) in
     let images = read .before .before .before .images-of in
     let made = ap₂ onThree (ap (λ (n : Node). n .op) (sym stands)) (images .ensures .0) in
     step-lays s (k st) _ (sym (st .pre .6)) (ap (snoc (stateAt s (k st) .out)) made ∙ sym (ap (λ (F : State). F .out) (copied st)))
@@ -81,10 +80,10 @@ copy-node-spec =
     (tie.spec
     images-of-requires
     node-at-requires
-    shared-slice-read-lay
-    array-read-lay
-    array-read-lay-2
-    array-read-lay-3
+    shared-slice-read-op
+    array-read-t11
+    array-read-t18
+    array-read-t21
     lay-requires
     same-length
     returns)

@@ -11,6 +11,7 @@ use lib.Bits.{bitOr}
 use Rattle.definitions.specs.Problem.Node.{Node, nodeAt}
 use Rattle.ranges.specs.Sets.{inSet, Merged}
 use Rattle.ranges.specs.Table.{TableIn, tableIn}
+use Rattle.ranges.specs.declared.Shape.{Shape}
 use Rattle.ranges.proofs.TableLaws.{LeafSet, length-table, equation-in}
 use Rattle.ranges.proofs.LinkLaws.{ClassesBefore, classes-none, classes-all, classes-kept, classes-merged}
 use Rattle.ranges.proofs.components.classes.Statement.{statement}
@@ -21,75 +22,72 @@ abbrev Sets : List Node → ℕ → ℕ → List ℕ → Type 0
 Sets t N k sets = (length sets ≡ 24) × ClassesBefore t N k sets
 
 abbrev Inv-loop : tie.InvT-loop
-Inv-loop table nodes variables truths leaves sets₀ k₀ sets k =
-    (k ≤ nodes) × Sets (tableIn table nodes) variables k sets
+Inv-loop table shape leaves sets₀ k₀ sets k =
+    (k ≤ shape .nodes) × Sets (tableIn table (shape .nodes)) (shape .variables) k sets
 
 abbrev μ-loop : tie.MeasureT-loop
-μ-loop table nodes variables truths leaves sets₀ k₀ sets k = nodes - k
+μ-loop table shape leaves sets₀ k₀ sets k = shape .nodes - k
 
 -- where the op of node k is read
 module _ (c : tie.After-shared-slice-known3 Inv-loop μ-loop) where
   abbrev start : tie.Start Inv-loop μ-loop
-  start = c .before .before .before .before .before .before
+  start = c .before .before .before .before .before .before .before
 
   abbrev s : List ℕ
   s = start .args .table .now
 
-  abbrev nodes : ℕ
-  nodes = start .args .nodes
+  abbrev shape : Shape
+  shape = start .args .shape
 
   abbrev N : ℕ
-  N = start .args .variables
-
-  abbrev P : ℕ
-  P = start .args .truths
+  N = shape .variables
 
   abbrev leaves : List ℕ
   leaves = start .args .leaves .now
 
   abbrev k : ℕ
-  k = c .before .before .loop .k
+  k = c .before .before .before .loop .k
 
   abbrev sets : List ℕ
-  sets = c .before .before .loop .sets
+  sets = c .before .before .before .loop .sets
 
   abbrev n : Node
   n = nodeAt s (8 * k)
 
   abbrev t : List Node
-  t = tableIn s nodes
+  t = tableIn s (shape .nodes)
 
   abbrev Next : List ℕ → Type 0
   Next = Sets t N (k + 1)
 
-  table : TableIn s nodes N P
+  table : TableIn s shape
   table = start .pre .0
 
-  within : k < nodes
-  within = c .before .loop-test .taken
+  within : k < shape .nodes
+  within = c .before .if1 .taken
 
   before : ClassesBefore t N k sets
-  before = c .before .before .loop .inv .1 .1
+  before = c .before .before .before .loop .inv .1 .1
 
-  earlier : n .op ≡ 2 → (n .a < nodes) × (n .b < nodes)
+  earlier : n .op ≡ 2 → (n .a < shape .nodes) × (n .b < shape .nodes)
   earlier q =
-      let o = equation-in s nodes N P table k within q in
+      let o = equation-in table k within q in
       let l = o .0 in
       let r = o .2 .0 in
       (omega arith, omega arith)
 
-  leaf-set : (i j : ℕ) → i ≡ j → j < nodes → LeafSet t j (getD leaves i 0)
+  leaf-set : (i j : ℕ) → i ≡ j → j < shape .nodes → LeafSet t j (getD leaves i 0)
   leaf-set i j e h v = ap (λ (b : ℕ). inSet (getD leaves b 0) v) e ∙ start .pre .1 j v h
 
   at-equation : n .op ≡ 2 → (i j : ℕ) → i ≡ n .a → j ≡ n .b → (merged : List ℕ)
       → Merged sets (bitOr (getD leaves i 0) (getD leaves j 0)) merged → ClassesBefore t N (k + 1) merged
   at-equation q i j e f merged m =
       let o = earlier q in
-      classes-merged s nodes N P table k within sets before q (getD leaves i 0) (getD leaves j 0) (leaf-set i (n .a) e (o .0))
+      classes-merged table k within sets before q (getD leaves i 0) (getD leaves j 0) (leaf-set i (n .a) e (o .0))
       (leaf-set j (n .b) f (o .1)) merged m
 
   at-other : (n .op ≡ 2 → ⊥) → ClassesBefore t N (k + 1) sets
-  at-other = classes-kept s nodes N P table k within sets before
+  at-other = classes-kept table k within sets before
 
 alone-requires : tie.Need-alone-requires Inv-loop μ-loop
 alone-requires c κs = search needs
@@ -99,14 +97,14 @@ loop-holds c =
     let a = c .before .before .before .args in
     let few = c .before .before .before .pre .0 .few-variables in (
       omega arith,
-      (search needs, classes-none (tableIn (a .table .now) (a .nodes)) (a .variables) few (c .alone .result) (c .alone .ensures)),
+      (search needs, classes-none (tableIn (a .table .now) (a .shape .nodes)) (a .shape .variables) few (c .alone .result) (c .alone .ensures)),
     )
 
 mul-at : tie.Need-mul-at Inv-loop μ-loop
 mul-at c = omega arith
 
-shared-slice-read-if1 : tie.Need-shared-slice-read-if1 Inv-loop μ-loop
-shared-slice-read-if1 c = omega arith
+shared-slice-read-if2 : tie.Need-shared-slice-read-if2 Inv-loop μ-loop
+shared-slice-read-if2 c = omega arith
 
 add-two-at : tie.Need-add-two-at Inv-loop μ-loop
 add-two-at c = omega arith
@@ -121,23 +119,23 @@ two-at-requires-2 : tie.Need-two-at-requires-2 Inv-loop μ-loop
 two-at-requires-2 c κs = omega arith
 
 slice-aggregate-merge : tie.Need-slice-aggregate-merge Inv-loop μ-loop
-slice-aggregate-merge c = search (needs, c .before .before .before .before .before .before .loop .inv .1 .0)
+slice-aggregate-merge c = search (needs, c .before .before .before .before .before .before .before .loop .inv .1 .0)
 
 mul-merge : tie.Need-mul-merge Inv-loop μ-loop
 mul-merge c = omega arith
 
 shared-slice-read-merge : tie.Need-shared-slice-read-merge Inv-loop μ-loop
-shared-slice-read-merge c = omega (arith, earlier (c .before .before .before .before .before) (c .before .before .before .before .if1 .taken))
+shared-slice-read-merge c = omega (arith, earlier (c .before .before .before .before .before) (c .before .before .before .before .if2 .taken))
 
 mul-merge-2 : tie.Need-mul-merge-2 Inv-loop μ-loop
 mul-merge-2 c = omega arith
 
 shared-slice-read-merge-2 : tie.Need-shared-slice-read-merge-2 Inv-loop μ-loop
 shared-slice-read-merge-2 c =
-    omega (arith, earlier (c .before .before .before .before .before .before) (c .before .before .before .before .before .if1 .taken))
+    omega (arith, earlier (c .before .before .before .before .before .before) (c .before .before .before .before .before .if2 .taken))
 
 merge-requires : tie.Need-merge-requires Inv-loop μ-loop
-merge-requires c κs = c .before .before .before .before .before .before .before .before .loop .inv .1 .0
+merge-requires c κs = c .before .before .before .before .before .before .before .before .before .loop .inv .1 .0
 
 add-k : tie.Need-add-k Inv-loop μ-loop
 add-k c = omega arith
@@ -151,22 +149,22 @@ loop-again c = (
   ⊎-elim
       (λ w.
       subst (Next (c .before)) (sym (w .8)) (
-        w .6 .kept .0 ∙ c .before .before .before .loop .inv .1 .0,
+        w .6 .kept .0 ∙ c .before .before .before .before .loop .inv .1 .0,
         at-equation (c .before) (w .0 .taken) (w .1 .result) (w .2 .result) (w .1 .ensures .0) (w .2 .ensures .0) (w .6 .last .0)
             (w .6 .ensures),
       ))
-      (λ w. subst (Next (c .before)) (sym (w .1)) (c .before .before .before .loop .inv .1 .0, at-other (c .before) (w .0 .left)))
-      (c .if1 .came),
+      (λ w. subst (Next (c .before)) (sym (w .1)) (c .before .before .before .before .loop .inv .1 .0, at-other (c .before) (w .0 .left)))
+      (c .if2 .came),
 )
 
 returns : tie.Need-returns Inv-loop μ-loop
 returns c =
-    let l = c .before .loop in
-    let s = c .before .before .before .before .before in
-    let t = tableIn (s .args .table .now) (s .args .nodes) in
-    let e : l .k ≡ length t = omega (arith, length-table (s .args .table .now) (s .args .nodes)) in (
-      classes-all t (s .args .variables) (s .pre .0 .few-variables) (l .sets)
-          (subst (λ (i : ℕ). ClassesBefore t (s .args .variables) i (l .sets)) e (l .inv .1 .1)),
+    let l = c .before .before .loop in
+    let s = c .before .before .before .before .before .before in
+    let t = tableIn (s .args .table .now) (s .args .shape .nodes) in
+    let e : l .k ≡ length t = omega (arith, length-table (s .args .table .now) (s .args .shape .nodes)) in (
+      classes-all t (s .args .shape .variables) (s .pre .0 .few-variables) (l .sets)
+          (subst (λ (i : ℕ). ClassesBefore t (s .args .shape .variables) i (l .sets)) e (l .inv .1 .1)),
       l .inv .1 .0,
     )
 
@@ -179,7 +177,7 @@ classes-spec =
     alone-requires
     loop-holds
     mul-at
-    shared-slice-read-if1
+    shared-slice-read-if2
     add-two-at
     two-at-requires
     add-two-at-2

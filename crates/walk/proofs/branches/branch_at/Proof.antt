@@ -36,7 +36,7 @@ add-cell-at c = search needs
 cell-at-requires : tie.Need-cell-at-requires
 cell-at-requires c κs =
     let s = c .before .before .before .before in
-    let u = choice-operands (s .args .table .now) (s .args .shape .nodes) (s .args .shape .variables) (s .args .shape .truths) (s .pre .0) (s .args .k) (s .pre .1) (c .match .keys2) in (omega arith, omega arith)
+    let u = choice-operands (s .pre .0) (s .args .k) (s .pre .1) (c .match .keys2) in (omega arith, omega arith)
 
 add-cell-at-2 : tie.Need-add-cell-at-2
 add-cell-at-2 c = search needs
@@ -44,7 +44,7 @@ add-cell-at-2 c = search needs
 cell-at-requires-2 : tie.Need-cell-at-requires-2
 cell-at-requires-2 c κs =
     let s = c .before .before .before .before .before in
-    let u = choice-operands (s .args .table .now) (s .args .shape .nodes) (s .args .shape .variables) (s .args .shape .truths) (s .pre .0) (s .args .k) (s .pre .1) (c .before .match .keys2) in (omega arith, omega arith)
+    let u = choice-operands (s .pre .0) (s .args .k) (s .pre .1) (c .before .match .keys2) in (omega arith, omega arith)
 
 add-cell-at-3 : tie.Need-add-cell-at-3
 add-cell-at-3 c = search needs
@@ -52,7 +52,7 @@ add-cell-at-3 c = search needs
 cell-at-requires-3 : tie.Need-cell-at-requires-3
 cell-at-requires-3 c κs =
     let s = c .before .before .before .before .before .before in
-    let u = choice-operands (s .args .table .now) (s .args .shape .nodes) (s .args .shape .variables) (s .args .shape .truths) (s .pre .0) (s .args .k) (s .pre .1) (c .before .before .match .keys2) in (omega arith, omega arith)
+    let u = choice-operands (s .pre .0) (s .args .k) (s .pre .1) (c .before .before .match .keys2) in (omega arith, omega arith)
 
 where-true-requires : tie.Need-where-true-requires
 where-true-requires c κs = search needs
@@ -63,7 +63,7 @@ add-cell-at-4 c = search needs
 cell-at-requires-4 : tie.Need-cell-at-requires-4
 cell-at-requires-4 c κs =
     let s = c .before .before .before .before in
-    let u = operands-there (s .args .table .now) (s .args .shape .nodes) (s .args .shape .variables) (s .args .shape .truths) (s .pre .0) (s .args .k) (s .pre .1) 2 (c .match .keys3) in (omega arith, omega arith)
+    let u = operands-there (s .pre .0) (s .args .k) (s .pre .1) 2 (c .match .keys3) in (omega arith, omega arith)
 
 add-cell-at-5 : tie.Need-add-cell-at-5
 add-cell-at-5 c = search needs
@@ -71,7 +71,7 @@ add-cell-at-5 c = search needs
 cell-at-requires-5 : tie.Need-cell-at-requires-5
 cell-at-requires-5 c κs =
     let s = c .before .before .before .before .before in
-    let u = operands-there (s .args .table .now) (s .args .shape .nodes) (s .args .shape .variables) (s .args .shape .truths) (s .pre .0) (s .args .k) (s .pre .1) 2 (c .before .match .keys3) in (omega arith, omega arith)
+    let u = operands-there (s .pre .0) (s .args .k) (s .pre .1) 2 (c .before .match .keys3) in (omega arith, omega arith)
 
 add-cell-at-6 : tie.Need-add-cell-at-6
 add-cell-at-6 c = search needs
@@ -79,7 +79,7 @@ add-cell-at-6 c = search needs
 cell-at-requires-6 : tie.Need-cell-at-requires-6
 cell-at-requires-6 c κs =
     let s = c .before .before .before .before in
-    let u = operands-there (s .args .table .now) (s .args .shape .nodes) (s .args .shape .variables) (s .args .shape .truths) (s .pre .0) (s .args .k) (s .pre .1) 3 (c .match .keys4) in (omega arith, omega arith)
+    let u = operands-there (s .pre .0) (s .args .k) (s .pre .1) 3 (c .match .keys4) in (omega arith, omega arith)
 
 where-true-requires-2 : tie.Need-where-true-requires-2
 where-true-requires-2 c κs = search needs
@@ -90,7 +90,7 @@ add-cell-at-7 c = search needs
 cell-at-requires-7 : tie.Need-cell-at-requires-7
 cell-at-requires-7 c κs =
     let s = c .before .before .before .before in
-    let u = operands-there (s .args .table .now) (s .args .shape .nodes) (s .args .shape .variables) (s .args .shape .truths) (s .pre .0) (s .args .k) (s .pre .1) 4 (c .match .keys5) in (omega arith, omega arith)
+    let u = operands-there (s .pre .0) (s .args .k) (s .pre .1) 4 (c .match .keys5) in (omega arith, omega arith)
 
 add-cell-at-8 : tie.Need-add-cell-at-8
 add-cell-at-8 c = search needs
@@ -98,7 +98,7 @@ add-cell-at-8 c = search needs
 cell-at-requires-8 : tie.Need-cell-at-requires-8
 cell-at-requires-8 c κs =
     let s = c .before .before .before .before .before in
-    let u = operands-there (s .args .table .now) (s .args .shape .nodes) (s .args .shape .variables) (s .args .shape .truths) (s .pre .0) (s .args .k) (s .pre .1) 4 (c .before .match .keys5) in (omega arith, omega arith)
+    let u = operands-there (s .pre .0) (s .args .k) (s .pre .1) 4 (c .before .match .keys5) in (omega arith, omega arith)
 
 where-true-requires-3 : tie.Need-where-true-requires-3
 where-true-requires-3 c κs = search needs
@@ -109,7 +109,7 @@ add-cell-at-9 c = search needs
 cell-at-requires-9 : tie.Need-cell-at-requires-9
 cell-at-requires-9 c κs =
     let s = c .before .before .before .before in
-    let u = operands-there (s .args .table .now) (s .args .shape .nodes) (s .args .shape .variables) (s .args .shape .truths) (s .pre .0) (s .args .k) (s .pre .1) 5 (c .match .keys6) in (omega arith, omega arith)
+    let u = operands-there (s .pre .0) (s .args .k) (s .pre .1) 5 (c .match .keys6) in (omega arith, omega arith)
 
 add-cell-at-10 : tie.Need-add-cell-at-10
 add-cell-at-10 c = search needs
@@ -117,7 +117,7 @@ add-cell-at-10 c = search needs
 cell-at-requires-10 : tie.Need-cell-at-requires-10
 cell-at-requires-10 c κs =
     let s = c .before .before .before .before .before in
-    let u = operands-there (s .args .table .now) (s .args .shape .nodes) (s .args .shape .variables) (s .args .shape .truths) (s .pre .0) (s .args .k) (s .pre .1) 5 (c .before .match .keys6) in (omega arith, omega arith)
+    let u = operands-there (s .pre .0) (s .args .k) (s .pre .1) 5 (c .before .match .keys6) in (omega arith, omega arith)
 
 where-true-requires-4 : tie.Need-where-true-requires-4
 where-true-requires-4 c κs = search needs

@@ -17,7 +17,7 @@ abbrev Inv-loop : tie.InvT-loop
 Inv-loop table shape chunks positions branches₀ wide k₀ branches k =
     (k ≤ shape .nodes)
     × (length branches ≡ length branches₀)
-    × Decoded (16 * chunks) (positionsIn positions) table (shape .nodes) (shape .variables) branches k
+    × Decoded (16 * chunks) (positionsIn positions) table shape branches k
 
 abbrev μ-loop : tie.MeasureT-loop
 μ-loop table shape chunks positions branches₀ wide k₀ branches k = shape .nodes - k
@@ -59,7 +59,7 @@ mul-branches c =
     let s = c .before .before .before .before .before .before .before .before .before .before in
     let b = c .before .before .before .branch-at in
     let small =
-    offsets (s .args .chunks) (s .args .positions .now) (s .args .table .now) (s .args .shape .nodes) (s .args .shape .variables) (s .args .shape .truths)
+    offsets (s .args .chunks) (s .args .positions .now)
     (s .pre .0) (s .pre .1) (s .pre .2) (c .before .before .before .before .before .before .loop .k) (c .before .before .before .before .if1 .taken) (b .result) (b .ensures)
     in
     omega arith
@@ -69,7 +69,7 @@ cast-branches c =
     let s = c .before .before .before .before .before .before .before .before .before .before in
     let b = c .before .before .before .branch-at in
     let small =
-    offsets (s .args .chunks) (s .args .positions .now) (s .args .table .now) (s .args .shape .nodes) (s .args .shape .variables) (s .args .shape .truths)
+    offsets (s .args .chunks) (s .args .positions .now)
     (s .pre .0) (s .pre .1) (s .pre .2) (c .before .before .before .before .before .before .loop .k) (c .before .before .before .before .if1 .taken) (b .result) (b .ensures)
     in
     omega arith
@@ -91,7 +91,7 @@ mul-branches-3 c =
     let s = c .before .before .before .before .before .before .before .before .before .before .before in
     let b = c .before .before .before .before .branch-at in
     let small =
-    offsets (s .args .chunks) (s .args .positions .now) (s .args .table .now) (s .args .shape .nodes) (s .args .shape .variables) (s .args .shape .truths)
+    offsets (s .args .chunks) (s .args .positions .now)
     (s .pre .0) (s .pre .1) (s .pre .2) (c .before .before .before .before .before .before .before .loop .k) (c .before .before .before .before .before .if1 .taken) (b .result) (b .ensures)
     in
     omega arith
@@ -101,7 +101,7 @@ cast-branches-2 c =
     let s = c .before .before .before .before .before .before .before .before .before .before .before in
     let b = c .before .before .before .before .branch-at in
     let small =
-    offsets (s .args .chunks) (s .args .positions .now) (s .args .table .now) (s .args .shape .nodes) (s .args .shape .variables) (s .args .shape .truths)
+    offsets (s .args .chunks) (s .args .positions .now)
     (s .pre .0) (s .pre .1) (s .pre .2) (c .before .before .before .before .before .before .before .loop .k) (c .before .before .before .before .before .if1 .taken) (b .result) (b .ensures)
     in
     omega arith
@@ -129,7 +129,7 @@ mul-branches-5 c =
     let s = c .before .before .before .before .before .before .before .before .before .before .before .before in
     let b = c .before .before .before .before .before .branch-at in
     let small =
-    offsets (s .args .chunks) (s .args .positions .now) (s .args .table .now) (s .args .shape .nodes) (s .args .shape .variables) (s .args .shape .truths)
+    offsets (s .args .chunks) (s .args .positions .now)
     (s .pre .0) (s .pre .1) (s .pre .2) (c .before .before .before .before .before .before .before .before .loop .k) (c .before .before .before .before .before .before .if1 .taken) (b .result) (b .ensures)
     in
     omega arith
@@ -139,7 +139,7 @@ cast-branches-3 c =
     let s = c .before .before .before .before .before .before .before .before .before .before .before .before in
     let b = c .before .before .before .before .before .branch-at in
     let small =
-    offsets (s .args .chunks) (s .args .positions .now) (s .args .table .now) (s .args .shape .nodes) (s .args .shape .variables) (s .args .shape .truths)
+    offsets (s .args .chunks) (s .args .positions .now)
     (s .pre .0) (s .pre .1) (s .pre .2) (c .before .before .before .before .before .before .before .before .loop .k) (c .before .before .before .before .before .before .if1 .taken) (b .result) (b .ensures)
     in
     omega arith
@@ -167,7 +167,7 @@ mul-branches-7 c =
     let s = c .before .before .before .before .before .before .before .before .before .before .before .before .before in
     let b = c .before .before .before .before .before .before .branch-at in
     let small =
-    offsets (s .args .chunks) (s .args .positions .now) (s .args .table .now) (s .args .shape .nodes) (s .args .shape .variables) (s .args .shape .truths)
+    offsets (s .args .chunks) (s .args .positions .now)
     (s .pre .0) (s .pre .1) (s .pre .2) (c .before .before .before .before .before .before .before .before .before .loop .k) (c .before .before .before .before .before .before .before .if1 .taken) (b .result) (b .ensures)
     in
     omega arith
@@ -177,7 +177,7 @@ cast-branches-4 c =
     let s = c .before .before .before .before .before .before .before .before .before .before .before .before .before in
     let b = c .before .before .before .before .before .before .branch-at in
     let small =
-    offsets (s .args .chunks) (s .args .positions .now) (s .args .table .now) (s .args .shape .nodes) (s .args .shape .variables) (s .args .shape .truths)
+    offsets (s .args .chunks) (s .args .positions .now)
     (s .pre .0) (s .pre .1) (s .pre .2) (c .before .before .before .before .before .before .before .before .before .loop .k) (c .before .before .before .before .before .before .before .if1 .taken) (b .result) (b .ensures)
     in
     omega arith
@@ -218,11 +218,11 @@ loop-again c =
       length-laid (16 * s .args .chunks) (l .branches) (here .result) (b .result) ∙ v .1,
       subst
           (λ m.
-          Decoded (16 * s .args .chunks) (positionsIn (s .args .positions .now)) (s .args .table .now) (s .args .shape .nodes) (s .args .shape .variables)
+          Decoded (16 * s .args .chunks) (positionsIn (s .args .positions .now)) (s .args .table .now) (s .args .shape)
           (laid (16 * s .args .chunks) (l .branches) m (b .result)) (l .k + 1)) (sym (here .ensures))
-          (decoded-more (16 * s .args .chunks) (s .args .positions .now) (s .args .table .now) (s .args .shape .nodes) (s .args .shape .variables) (s .pre .1)
+          (decoded-more (16 * s .args .chunks) (s .args .positions .now) (s .args .table .now) (s .args .shape) (s .pre .1)
           (l .branches) (l .k) (b .result)
-          (branch-there (s .args .table .now) (s .args .shape .nodes) (s .args .shape .variables) (s .args .shape .truths) (s .pre .0) (l .k) below
+          (branch-there (s .pre .0) (l .k) below
           (positionsIn (s .args .positions .now)) (b .result) (b .ensures))
           below (omega arith) (v .2)),
     )
@@ -235,7 +235,7 @@ returns c =
     let s = c .before .before .before .before .before .before in
     let l = c .before .before .loop in
     subst
-    (Decoded (16 * s .args .chunks) (positionsIn (s .args .positions .now)) (s .args .table .now) (s .args .shape .nodes) (s .args .shape .variables) (l .branches))
+    (Decoded (16 * s .args .chunks) (positionsIn (s .args .positions .now)) (s .args .table .now) (s .args .shape) (l .branches))
     (let e : l .k ≡ s .args .shape .nodes = omega arith in e) (l .inv .2)
 
 pub decode-spec : {M : Type 1} → statement M
