@@ -14,16 +14,16 @@ use Rattle.definitions.specs.Operations.Promises.{DecidePromise, HostPromise, R
 use Rattle.definitions.specs.declared.Decision.{Decision}
 use Rattle.definitions.specs.declared.Reading.{Reading}
 
-module _ (budget : ℕ) (s work witness answer : List ℕ) where
+module _ (budget root : ℕ) (s work witness answer : List ℕ) where
   abbrev outcome : HostOutcome
-  outcome = hostOutcome budget s work witness answer
+  outcome = hostOutcome budget root s work witness answer
 
   -- the two arms of the outcome
   untouched : length answer < 32 → outcome ≡ record { returned = 0; work = work; witness = witness; answer = answer }
   unfolding hostOutcome
   untouched h = rw (lt-ltb (length answer) 32 h, hostOutcome)
 
-  pub short-answer : length answer < 32 → HostPromise budget s work witness answer 0 work witness answer
+  pub short-answer : length answer < 32 → HostPromise budget root s work witness answer 0 work witness answer
   short-answer h =
       let e = sym (untouched h) in
       record {
@@ -37,16 +37,16 @@ module _ (budget : ℕ) (s work witness answer : List ℕ) where
       → outcome
       ≡ record {
         returned = 1;
-        work = workAfterDecide s work (length witness);
-        witness = witnessAfter s budget (length work) witness;
-        answer = over (answerBytes (decideAnswer s budget (length work) (length witness))) answer;
+        work = workAfterDecide s root work (length witness);
+        witness = witnessAfter s root budget (length work) witness;
+        answer = over (answerBytes (decideAnswer s root budget (length work) (length witness))) answer;
       }
   unfolding hostOutcome
   laid h = rw (le-ltb (length answer) 32 h, hostOutcome)
 
   pub answer-laid : {d : Decision} {bytes work′ witness′ answer′ : List ℕ} → 32 ≤ length answer
-      → DecidePromise budget s work witness d work′ witness′ → bytes ≡ answerBytes (decisionRead d)
-      → answer′ ≡ over bytes answer → HostPromise budget s work witness answer 1 work′ witness′ answer′
+      → DecidePromise budget root s work witness d work′ witness′ → bytes ≡ answerBytes (decisionRead d)
+      → answer′ ≡ over bytes answer → HostPromise budget root s work witness answer 1 work′ witness′ answer′
   answer-laid h p q w =
       let e = sym (laid h) in
       record {

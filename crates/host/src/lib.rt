@@ -1,4 +1,4 @@
-// The calls from C: `eqp_decide` decides a problem, `eqp_read` reads one from a text, and both lay the answer down in 32 bytes, low
+// The calls from C: `eqp_decide` decides a named root of a problem, `eqp_read` reads one from a text, and both lay the answer down in 32 bytes, low
 // byte first.
 ghost use mathlib.Core.Path.{_≡_};
 ghost use Prim.Native.Nat.{_≤_};
@@ -31,17 +31,18 @@ struct Reply {
 #[no_mangle]
 pub extern "C" fn eqp_decide(
     budget: u64,
+    root: usize,
     problem: &[u8],
     work: &mut [u8],
     witness: &mut [u8],
     answer: &mut [u8],
 ) -> u32
-    ensures { λ r. ⌜ HostPromise budget (now (problem .entry)) (now (work .entry)) (now (witness .entry)) (now (answer .entry)) r (now (work .exit)) (now (witness .exit)) (now (answer .exit)) ⌝ }
+    ensures { λ r. ⌜ HostPromise budget root (now (problem .entry)) (now (work .entry)) (now (witness .entry)) (now (answer .entry)) r (now (work .exit)) (now (witness .exit)) (now (answer .exit)) ⌝ }
 {
     if answer.len() < 32 {
         return 0;
     }
-    let decision = decide(budget, problem, work, witness);
+    let decision = decide(budget, root, problem, work, witness);
     put_reply(answer, reply_of(decision));
     1
 }

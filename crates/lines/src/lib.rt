@@ -11,6 +11,7 @@ use crate::put::put;
 use crate::put::put_number;
 use decision::decide;
 use problem::bytes::two_at;
+use problem::head::last_node;
 
 pub mod answer;
 pub mod put;
@@ -32,7 +33,7 @@ pub fn title_line(text: &mut [u8]) -> usize
     put(text, 0, &HEADING)
 }
 
-// The line of job k. The lent buffers are of the least length that decide takes.
+// The line of job k, whose last node is named. The lent buffers are of the least length that decide takes.
 pub fn job_line(
     text: &mut [u8],
     k: u64,
@@ -44,7 +45,7 @@ pub fn job_line(
     requires { ⌜ (77 ≤ length (now text)) × (length (now work) ≡ 21056) × (length (now witness) ≡ 206) ⌝ }
     ensures { λ r. ⌜ (take r (now (text .exit)) ≡ jobLine k budget (now (problem .entry))) × (r ≤ length (now (text .exit))) ⌝ }
 {
-    let answer = decide(budget, problem, work, witness);
+    let answer = decide(budget, last_node(problem), problem, work, witness);
     let at = put(text, 0, &JOB);
     let at = put_number(text, at, k);
     let at = put_answer(text, at, answer);

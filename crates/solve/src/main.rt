@@ -11,6 +11,7 @@ use libc::ENAMETOOLONG;
 use libc::STDIN_FILENO;
 use libc::STDOUT_FILENO;
 use problem::bytes::wide;
+use problem::head::last_node;
 use solve_lines::answer_lines;
 use solve_lines::budget::Budget;
 use solve_lines::budget::budget_in;
@@ -63,12 +64,12 @@ fn write_tables(text: &[u8], problem: &[u8], witness: &[u8]) {
     }
 }
 
-// Decides the problem of a text.
+// Decides the last node of the problem of a text.
 fn answer(budget: u64, text: &[u8], problem: &[u8]) {
     let mut work = [0u8; 21056];
     let mut witness = [0u8; 206];
     let mut line = [0u8; 256];
-    let answer = decide(budget, problem, &mut work, &mut witness);
+    let answer = decide(budget, last_node(problem), problem, &mut work, &mut witness);
     let end = answer_lines(&mut line, text, answer);
     if !write_line(&line, end) {
         return;

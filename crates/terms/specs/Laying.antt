@@ -8,12 +8,9 @@ use lib.ListN.{length}
 use Rattle.definitions.specs.Problem.Node.{nodesAt}
 use Rattle.definitions.specs.Problem.Node as table
 use Rattle.definitions.specs.Text.Nodes.{Laid, laid}
-use Rattle.terms.specs.declared.nodes.Node.{Node}
+use Rattle.problem.specs.declared.put.Node.{Node}
 use Rattle.terms.specs.declared.nodes.Laying.{Laying}
 use Rattle.terms.specs.declared.nodes.Asked.{Asked}
-
-abbrev pub nodeRead : Node → table.Node
-nodeRead n = record { op = n .op; sym = n .symbol; a = n .a; b = n .b; c = n .c }
 
 -- the nodes that stand in a buffer
 abbrev pub tableIn : List ℕ → ℕ → List table.Node

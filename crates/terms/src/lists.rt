@@ -14,9 +14,9 @@ ghost use Rattle.terms.specs.Symbols.{sortIs, headRead};
 use crate::heads::Head;
 use crate::nodes::Asked;
 use crate::nodes::Laying;
-use crate::nodes::Node;
 use crate::nodes::ask;
 use problem::bytes::wide;
+use problem::put::Node;
 
 // What is kept of a list between two arguments: their count, up to three; the numbers of the first three and of the last; what and,
 // or and = have joined so far; and how many negations of => wait.

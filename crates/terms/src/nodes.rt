@@ -7,19 +7,13 @@ ghost use mathlib.Core.Option.{none};
 ghost use Rattle.definitions.specs.Problem.Node.{same, nodeAt};
 ghost use Rattle.definitions.specs.Text.Nodes.{placeOf};
 ghost use Rattle.definitions.specs.Text.Nodes as table;
+ghost use Rattle.problem.specs.Nodes.{nodeRead};
 ghost use Rattle.problem.specs.Stages.{foundOf};
-ghost use Rattle.terms.specs.Laying.{nodeRead, tableIn, NodeSmall, TableFits, Performs};
-use elimination::put::put_node;
+ghost use Rattle.terms.specs.Laying.{tableIn, NodeSmall, TableFits, Performs};
 use problem::bytes::Found;
 use problem::bytes::two_at;
-
-pub struct Node {
-    pub op: u8,
-    pub symbol: u8,
-    pub a: usize,
-    pub b: usize,
-    pub c: usize,
-}
+use problem::put::Node;
+use problem::put::put_node;
 
 // How many nodes are laid, and whether more would be than a problem may have: then nothing is laid any more.
 pub struct Laying {
@@ -78,14 +72,7 @@ fn append(nodes: &mut [u8], count: usize, node: Node) -> Asked
         };
     }
     let at = 8 * count;
-    put_node(
-        &mut nodes[at..],
-        node.op,
-        node.symbol,
-        node.a,
-        node.b,
-        node.c,
-    );
+    put_node(&mut nodes[at..], node);
     Asked {
         number: count,
         laying: Laying {

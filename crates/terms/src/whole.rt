@@ -6,23 +6,13 @@ ghost use Rattle.definitions.specs.Problem.Node.{problemBytes};
 ghost use Rattle.definitions.specs.Operations.Buffers.{over};
 ghost use Rattle.terms.specs.Laying.{tableIn};
 use problem::bytes::put;
+use problem::put::put_front;
 
 pub fn put_problem(whole: &mut [u8], symbols: &[u8], nodes: &[u8], count: usize)
     requires { ⌜ (2088 ≤ length (now whole)) × (length (now symbols) ≤ 32) × (length (now nodes) ≡ 8 * count) × (count ≤ 256) ⌝ }
     ensures { λ r. ⌜ now (whole .exit) ≡ over (problemBytes (now (symbols .entry)) (tableIn (now (nodes .entry)) count)) (now (whole .entry)) ⌝ }
 {
-    let head = [
-        69,
-        81,
-        80,
-        1,
-        0,
-        symbols.len() as u8,
-        (count % 256) as u8,
-        (count / 256 % 256) as u8,
-    ];
-    put(whole, &head);
-    put(&mut whole[8..], symbols);
+    put_front(whole, symbols, count);
     let at = 8 + symbols.len();
     put(&mut whole[at..], nodes);
 }

@@ -40,9 +40,9 @@ use Rattle.definitions.specs.Text.Nodes.{
 use Rattle.definitions.specs.declared.Refusal.{Refusal}
 use Rattle.definitions.specs.declared.Reading.{Reading}
 use Rattle.theorems.proofs.Accepted.{length-nodesAt}
-use Rattle.theorems.proofs.Tables.Back.{two-back}
+use Rattle.theorems.proofs.Tables.Back.{two-back, nodes-read, problem-length}
 use Rattle.theorems.proofs.Text.Taken.Exactly.{read-means}
-use Rattle.theorems.proofs.Text.Meant.Bytes.{nodes-read, problem-length, low}
+use Rattle.theorems.proofs.Text.Meant.Bytes.{low}
 use Rattle.problem.specs.Shape.{Shaped}
 use Rattle.terms.specs.Lexing.{nameOf}
 use Rattle.terms.specs.Symbols.{symbolByte}
@@ -224,9 +224,9 @@ module _ (symbols nodes : List ℕ) (count : ℕ) (whole rest : List ℕ) (put :
   pub front-long : length front ≡ 8 + length symbols + 8 * count
   front-long = ap length front-is ∙ bytes-long
 
-  pub front-shaped : length symbols ≤ 32 → 1 ≤ count → count ≤ 256 → Shaped front (length symbols) count
+  pub front-shaped : length symbols ≤ 32 → 1 ≤ count → count ≤ 256 → Shaped front (record { symbols = length symbols; nodes = count })
   front-shaped few one many =
-      subst (λ (l : List ℕ). Shaped l (length symbols) count) (sym front-is)
+      subst (λ (l : List ℕ). Shaped l (record { symbols = length symbols; nodes = count })) (sym front-is)
       record {
         symbols-are = refl;
         nodes-are = sym (two-back (length (tableIn nodes count)) (omega (arith, counted-nodes)) ∙ counted-nodes);

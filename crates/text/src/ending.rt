@@ -15,13 +15,14 @@ ghost use Rattle.text.specs.Ending.{limitRead, Negated, Deliverable, Del
 use crate::scripts::Script;
 use definitions::Reading;
 use definitions::Refusal;
-use elimination::put::put_node;
 use problem::bytes::put;
 use problem::bytes::wide;
+use problem::head::Header;
+use problem::put::Node;
+use problem::put::put_node;
 use problem::repeats::distinct;
 use terms::nodes::Asked;
 use terms::nodes::Laying;
-use terms::nodes::Node;
 use terms::nodes::ask;
 use terms::whole::put_problem;
 
@@ -83,7 +84,14 @@ fn negate(nodes: &mut [u8], asked: Asked) -> Laying
         return Laying { count, over: true };
     }
     let at = 8 * count;
-    put_node(&mut nodes[at..], 3, 0, asked.number, 0, 0);
+    let negation = Node {
+        op: 3,
+        symbol: 0,
+        a: asked.number,
+        b: 0,
+        c: 0,
+    };
+    put_node(&mut nodes[at..], negation);
     Laying {
         count: count + 1,
         over: false,
@@ -91,14 +99,14 @@ fn negate(nodes: &mut [u8], asked: Asked) -> Laying
 }
 
 // 9, and then 10.
-fn limits(whole: &[u8], symbols: usize, nodes: usize) -> Limit
-    requires { ⌜ Shaped (now whole) symbols nodes ⌝ }
+fn limits(whole: &[u8], header: Header) -> Limit
+    requires { ⌜ Shaped (now whole) header ⌝ }
     ensures { λ r. ⌜ limitRead r ≡ firstOf (afterFour (nodesOf (now (whole .entry)))) ⌝ }
 {
-    if 24 < distinct(whole, symbols, nodes, 0) {
+    if 24 < distinct(whole, header, 0) {
         return Limit::Refused(Refusal::ManyFunctions);
     }
-    if 16 < distinct(whole, symbols, nodes, 6) {
+    if 16 < distinct(whole, header, 6) {
         return Limit::Refused(Refusal::ManyPredicates);
     }
     Limit::Fine
@@ -113,7 +121,11 @@ fn deliver(problem: &mut [u8], symbols: &[u8], nodes: &[u8], count: usize) -> Re
     put_problem(&mut whole, symbols, nodes, count);
     let written = 8 + symbols.len() + 8 * count;
     let bytes = &whole[..written];
-    match limits(bytes, symbols.len(), count) {
+    let header = Header {
+        symbols: symbols.len(),
+        nodes: count,
+    };
+    match limits(bytes, header) {
         Limit::Refused(refusal) => Reading::Refused(refusal),
         Limit::Fine => {
             put(problem, bytes);

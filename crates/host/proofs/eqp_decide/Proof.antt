@@ -8,7 +8,7 @@ use Rattle.host.proofs.eqp_decide.Tie as tie
 returns : tie.Need-returns
 returns c =
     let s = c .before .before .before .before .before .args in
-    short-answer (s .budget) (s .problem .now) (s .work .now) (s .witness .now) (s .answer .now) (omega arith)
+    short-answer (s .budget) (s .root) (s .problem .now) (s .work .now) (s .witness .now) (s .answer .now) (omega arith)
 
 decide-requires : tie.Need-decide-requires
 decide-requires c κs = search needs
@@ -35,7 +35,7 @@ returns-2 c =
     let decided = replied .before .before .before .before .before .before in
     let enough = decided .before .before .before in
     let s = enough .before .before .before .before .before .args in
-    answer-laid (s .budget) (s .problem .now) (s .work .now) (s .witness .now) (s .answer .now) (enough .if1 .left)
+    answer-laid (s .budget) (s .root) (s .problem .now) (s .work .now) (s .witness .now) (s .answer .now) (enough .if1 .left)
     (decided .decide .ensures) (replied .reply-of .ensures) (laid .put-reply .ensures)
 
 pub eqp-decide-spec : {M : Type 1} → statement M

@@ -6,6 +6,9 @@ use Rattle.lines.proofs.Writing.{wrote-as, wrote-more, whole-line}
 use Rattle.lines.proofs.job_line.Statement.{statement}
 use Rattle.lines.proofs.job_line.Tie as tie
 
+last-node-requires : tie.Need-last-node-requires
+last-node-requires c κs = search needs
+
 decide-requires : tie.Need-decide-requires
 decide-requires c κs = search needs
 
@@ -43,10 +46,11 @@ returns c =
     let counting = answering .before .before .before .before in
     let naming = counting .before .before .before .before in
     let deciding = naming .before .before .before .before .before .before .before in
-    let start = deciding .before .before .before .before .before .before .before in
+    let ending = deciding .before .before .before in
+    let start = ending .before .before .before .before .before in
     let named = naming .put .ensures in
     let counted = counting .put-number .ensures .0 in
-    let decided = said-decided (deciding .decide .ensures) (start .pre .1) (start .pre .2) in
+    let decided = said-decided (ending .last-node .ensures) (deciding .decide .ensures) (start .pre .1) (start .pre .2) in
     let answered = wrote-as (answering .put-answer .ensures .0) decided in
     whole-line (wrote-more (wrote-more (wrote-more named counted) answered) (feeding .put2 .ensures))
 
@@ -54,6 +58,7 @@ pub job-line-spec : {M : Type 1} → statement M
 job-line-spec =
     tie.close
     (tie.spec
+    last-node-requires
     decide-requires
     slice-aggregate-put
     put-requires

@@ -1,7 +1,7 @@
 -- The node's bytes go behind the table, unless it is full. Assumes nothing.
 use native.Mathlib.Omega.{arith}
 use Rattle.theorems.proofs.Tables.Back.{Low}
-use Rattle.terms.specs.Laying.{nodeRead}
+use Rattle.problem.specs.Nodes.{nodeRead}
 use Rattle.terms.proofs.AskLaws.{appended, full, one-more}
 use borrow.Author.Needs.{needs}
 use Rattle.terms.proofs.nodes.append.Statement.{statement}

@@ -1,7 +1,7 @@
 -- By whether there is room, and by whether an equal node stands. Assumes nothing.
 use mathlib.Core.Path.{sym, ap, _∙_}
 use Rattle.problem.specs.Stages.{foundOf}
-use Rattle.terms.specs.Laying.{nodeRead}
+use Rattle.problem.specs.Nodes.{nodeRead}
 use Rattle.terms.proofs.AskLaws.{no-room, found-one, found-inside, with-room}
 use borrow.Author.Needs.{needs}
 use Rattle.terms.proofs.nodes.ask.Statement.{statement}

@@ -11,7 +11,8 @@ use Rattle.definitions.specs.Text.Nodes.{placeOf}
 use Rattle.theorems.proofs.Laws.Scans.{failingFrom, fails-here, fails-later, fails-nowhere}
 use Rattle.theorems.proofs.Accepted.{length-nodesAt}
 use Rattle.problem.proofs.NodeLaws.{node-nodesAt}
-use Rattle.terms.specs.Laying.{nodeRead, tableIn}
+use Rattle.problem.specs.Nodes.{nodeRead}
+use Rattle.terms.specs.Laying.{tableIn}
 use Rattle.terms.proofs.nodes.find.Statement.{statement}
 use Rattle.terms.proofs.nodes.find.Tie as tie
 

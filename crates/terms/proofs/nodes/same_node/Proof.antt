@@ -7,7 +7,7 @@ use Rattle.definitions.specs.Problem.Node.{nodeAt}
 use Rattle.definitions.specs.Problem.Node as table
 use Rattle.problem.specs.Stages.{oneSymbol}
 use Rattle.problem.proofs.Scans.{op-differs, symbol-decides, head-differs, a-differs, b-differs, c-decides}
-use Rattle.terms.specs.Laying.{nodeRead}
+use Rattle.problem.specs.Nodes.{nodeRead}
 use borrow.Author.Needs.{needs}
 use Rattle.terms.proofs.nodes.same_node.Statement.{statement}
 use Rattle.terms.proofs.nodes.same_node.Tie as tie

@@ -30,8 +30,8 @@ part-put-node-end c = search needs
 put-node-requires : tie.Need-put-node-requires
 put-node-requires c κs = search needs
 
-add-t9 : tie.Need-add-t9
-add-t9 c = search needs
+add-t10 : tie.Need-add-t10
+add-t10 c = search needs
 
 same-length : tie.Need-same-length
 same-length c = search needs
@@ -61,6 +61,6 @@ negate-spec =
     part-put-node-start
     part-put-node-end
     put-node-requires
-    add-t9
+    add-t10
     same-length
     returns-3)
