@@ -3,6 +3,7 @@
 use decision::decide;
 use definitions::Decision;
 use definitions::Reading;
+use problem::head::last_node;
 use text::read;
 
 // The first bytes of a slice, or all where it has no more.
@@ -44,8 +45,9 @@ fn decides(name: &[u8], words: &[u8]) {
     let mut work = [0u8; 21056];
     let mut witness = [0u8; 206];
     let written = reads(name, words, &mut problem);
+    let asked = first(&problem, written);
     print::head(b"decide ", name);
-    match decide(1000, first(&problem, written), &mut work, &mut witness) {
+    match decide(1000, last_node(asked), asked, &mut work, &mut witness) {
         Decision::Valid { tried, product } => counted(b": valid", tried, product),
         Decision::Stopped { tried, product } => counted(b": stopped", tried, product),
         Decision::Falsified {

@@ -22,7 +22,7 @@ pub fn problem(name: &[u8], draft: Draft) {
 pub fn check(name: &[u8], draft: Draft) {
     let bytes = draft.bytes;
     print::head(b"check ", name);
-    match problem::check(first(&bytes, draft.length)) {
+    match asked::check(draft.root, first(&bytes, draft.length)) {
         Checked::Accepted {
             functions,
             predicates,
@@ -39,7 +39,7 @@ pub fn check(name: &[u8], draft: Draft) {
 pub fn eliminate(name: &[u8], draft: Draft, work: &mut [u8]) -> usize {
     let bytes = draft.bytes;
     print::head(b"eliminate ", name);
-    match elimination::eliminate(first(&bytes, draft.length), work) {
+    match elimination::eliminate(draft.root, first(&bytes, draft.length), work) {
         Eliminated::Table { nodes, root } => {
             print::labelled(b": nodes ", nodes as u64);
             print::labelled(b" root ", root as u64);
@@ -64,7 +64,7 @@ pub fn table(name: &[u8], work: &[u8], nodes: usize) {
 pub fn ranges(name: &[u8], draft: Draft, work: &mut [u8]) {
     let bytes = draft.bytes;
     print::head(b"ranges ", name);
-    let all = ranges::ranges(first(&bytes, draft.length), work);
+    let all = ranges::ranges(draft.root, first(&bytes, draft.length), work);
     let tops = all.tops;
     let answer = all.answer;
     match answer {
@@ -89,7 +89,13 @@ pub fn decide(
     let bytes = draft.bytes;
     print::head(b"decide ", name);
     print::labelled(b" budget ", budget);
-    match decision::decide(budget, first(&bytes, draft.length), work, witness) {
+    match decision::decide(
+        budget,
+        draft.root,
+        first(&bytes, draft.length),
+        work,
+        witness,
+    ) {
         Decision::Valid { tried, product } => verdict(b": valid", tried, product, 0),
         Decision::Falsified {
             tried,

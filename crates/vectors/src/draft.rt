@@ -2,10 +2,11 @@
 // a case spoils it on purpose.
 ghost use Prim.Native.Nat.{_<_};
 
-// Room for 33 symbols and 257 nodes, one more than the limits.
+// Room for 33 symbols and 257 nodes, one more than the limits. The root is the last node, unless a case asks another.
 pub struct Draft {
     pub bytes: [u8; 2112],
     pub length: usize,
+    pub root: usize,
 }
 
 impl Draft {
@@ -14,6 +15,7 @@ impl Draft {
         let none = Draft {
             bytes: [0; 2112],
             length: 0,
+            root: 0,
         };
         none.byte(b'E')
             .byte(b'Q')
@@ -49,13 +51,21 @@ impl Draft {
         self
     }
 
+    // Another root.
+    pub fn asking(mut self, root: usize) -> Draft {
+        self.root = root;
+        self
+    }
+
     // A symbol byte. All symbols come before the first node.
     pub fn symbol(self, value: u8) -> Draft {
         self.count(5).byte(value)
     }
 
     pub fn node(self, op: u8, symbol: u8, a: u8, b: u8, c: u8) -> Draft {
-        self.count(6)
+        let counted = self.count(6);
+        counted
+            .asking(counted.last() as usize)
             .byte(op)
             .byte(symbol)
             .byte(a)
@@ -78,6 +88,15 @@ impl Draft {
             self.bytes[at + 1] = 1;
         }
         self
+    }
+
+    // The number of the last node, where there is one.
+    fn last(self) -> u8 {
+        let low = self.bytes[6];
+        if 0 < low {
+            return low - 1;
+        }
+        255
     }
 
     pub fn variable(self, symbol: u8) -> Draft {
@@ -140,20 +159,25 @@ impl Draft {
             Each::TruthVariable => self.truth_variable(k),
             Each::Function(symbol) => self.applied(symbol, k),
             Each::Predicate(symbol) => self.node(6, symbol, k, 0, 0),
+            Each::Same => self.equation(k, k),
             Each::Link => self.equation(k, k + 1),
+            Each::Or => self.disjunction(self.last(), k),
             Each::Yes => self.yes(),
         }
     }
 }
 
 // What a run has at a number k: a symbol byte; the variable or the truth variable of symbol k; a function or a predicate of node
-// k, with node 0 for its further arguments; the equation of nodes k and k + 1; true.
+// k, with node 0 for its further arguments; the equation of node k with itself, or with node k + 1; the or of the last node and
+// node k, so that the last or of a run reaches all that the run has passed; true.
 pub enum Each {
     Symbol(u8),
     Variable,
     TruthVariable,
     Function(u8),
     Predicate(u8),
+    Same,
     Link,
+    Or,
     Yes,
 }

@@ -97,7 +97,8 @@ pub fn predicates() -> Draft {
         .disjunction(5, 7)
 }
 
-// false, beside 15 variables, f of nine of them, and 16 truth variables: as many applications as there may be
+// Not any of 24 equations, each of a term with itself, and of 16 truth variables. The terms are 15 variables and f of nine of
+// them: as many applications as there may be.
 pub fn longest_witness() -> Draft {
     Draft::new()
         .run(Each::Symbol(0), 0, 15)
@@ -105,6 +106,8 @@ pub fn longest_witness() -> Draft {
         .symbol(1)
         .run(Each::Variable, 0, 15)
         .run(Each::Function(31), 0, 9)
+        .run(Each::Same, 0, 24)
         .run(Each::TruthVariable, 15, 31)
-        .no()
+        .run(Each::Or, 24, 63)
+        .negation(102)
 }

@@ -1,6 +1,7 @@
-// Refusals 1 to 8, and beside them problems that are just taken. A case is named by what is wrong, or by what is just right.
+// Refusals 1 to 7 and 16, and beside them problems that are just taken. A case is named by what is wrong, or by what is just right.
 use crate::answers::check;
 use crate::draft::Draft;
+use crate::limits;
 use crate::rows;
 
 // 1 to 3 and 5: the length, the letters, the version.
@@ -104,9 +105,16 @@ pub fn sorts() {
     third(b"choice of formulas with a term", 9, 0, 1, 0, 1);
 }
 
-// 8: the last node is a formula.
+// 16: the node asked is a formula. It comes after 7 and before 9.
 pub fn asked() {
     third(b"variable asked", 0, 0, 0, 0, 0);
     third(b"choice asked", 1, 0, 1, 0, 0);
+    check(b"no node asked", start().asking(2));
     check(b"bad node and term asked", start().negation(0).variable(0));
+    check(b"bad node and no node asked", start().negation(0).asking(3));
+    check(b"bad node past the root", start().negation(0).asking(1));
+    check(
+        b"choice by 25 variables asked",
+        limits::variables(25).choice(73, 0, 0),
+    );
 }

@@ -22,6 +22,7 @@ pub fn rows() {
 }
 
 fn row(name: &[u8], draft: Draft) {
+    answers::problem(name, draft);
     survey(name, draft);
     budgets::small(name, draft);
     budgets::largest(name, draft);
@@ -37,16 +38,22 @@ pub fn examples() {
 }
 
 fn example(name: &[u8], draft: Draft) {
+    answers::problem(name, draft);
+    operations(name, draft);
+}
+
+// What each operation answers, decide with the largest budget, and the table and the witness where there is one.
+pub fn operations(name: &[u8], draft: Draft) {
     survey(name, draft);
     budgets::largest(name, draft);
 }
 
-// The problem's bytes, what check, eliminate and ranges answer, and the table.
 fn survey(name: &[u8], draft: Draft) {
     let mut work = [255u8; 21056];
-    answers::problem(name, draft);
     answers::check(name, draft);
     let nodes = answers::eliminate(name, draft, &mut work);
-    answers::table(name, &work, nodes);
+    if 0 < nodes {
+        answers::table(name, &work, nodes);
+    }
     answers::ranges(name, draft, &mut work);
 }
