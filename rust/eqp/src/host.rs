@@ -6,7 +6,10 @@ pub use bytes::{decode, decode_reading, encode, encode_reading};
 
 use crate::{Answer, Reading, ANSWER_LEN};
 
-/// Decides one problem with the proved library.
+/// Decides the formula at a problem's root with the proved library.
+///
+/// The root is the number of a node. What it does not reach counts for nothing, once the whole
+/// table is well formed (document 02, E2).
 ///
 /// The work buffer gets the function-free table, the witness buffer the witness of a falsified
 /// answer; `docs/FORMAT.md` says which bytes each answer leaves alone.
@@ -14,9 +17,15 @@ use crate::{Answer, Reading, ANSWER_LEN};
 /// # Panics
 ///
 /// Where the library answers in another way than it is proved to, so that it is not that library.
-pub fn decide(budget: u64, problem: &[u8], work: &mut [u8], witness: &mut [u8]) -> Answer {
+pub fn decide(
+    budget: u64,
+    root: usize,
+    problem: &[u8],
+    work: &mut [u8],
+    witness: &mut [u8],
+) -> Answer {
     let mut answer = [0; ANSWER_LEN];
-    let returned = raw_decide(budget, problem, work, witness, &mut answer);
+    let returned = raw_decide(budget, root, problem, work, witness, &mut answer);
     answered(returned, &answer, decode)
 }
 
@@ -49,12 +58,13 @@ pub fn read(text: &[u8], problem: &mut [u8]) -> Reading {
 /// buffer changed, where `answer` is shorter than that.
 pub fn raw_decide(
     budget: u64,
+    root: usize,
     problem: &[u8],
     work: &mut [u8],
     witness: &mut [u8],
     answer: &mut [u8],
 ) -> u32 {
-    call::eqp_decide(budget, problem, work, witness, answer)
+    call::eqp_decide(budget, root, problem, work, witness, answer)
 }
 
 /// The library's own call: 1, with the answer in the first 32 bytes of `answer`, or 0, with no
@@ -73,6 +83,7 @@ mod call {
         extern "C" {
             pub fn eqp_decide(
                 budget: u64,
+                root: usize,
                 problem: *const u8,
                 problem_len: usize,
                 work: *mut u8,
@@ -96,6 +107,7 @@ mod call {
 
     pub fn eqp_decide(
         budget: u64,
+        root: usize,
         problem: &[u8],
         work: &mut [u8],
         witness: &mut [u8],
@@ -105,6 +117,7 @@ mod call {
         unsafe {
             foreign::eqp_decide(
                 budget,
+                root,
                 problem.as_ptr(),
                 problem.len(),
                 work.as_mut_ptr(),

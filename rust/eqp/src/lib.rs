@@ -1,10 +1,11 @@
 //! Equality jobs from a Rust host.
 //!
-//! A problem is a formula of equality with uninterpreted functions, as a table of nodes in bytes.
-//! [`host::decide`] hands it to the proved checker (`libhost.a`, made by `rt staticlib host`),
-//! which answers valid, falsified with tables that make the formula false, stopped where the
-//! budget ends first, or refused. [`reference::decide`] is a second implementation, written from
-//! document 01 alone; the tests compare the two on many generated problems. [`host::read`] and
+//! A problem is formulas of equality with uninterpreted functions, as a table of nodes in bytes; a
+//! call names the root, the formula that is asked (document 02, E2). [`host::decide`] hands both
+//! to the proved checker (`libhost.a`, made by `rt staticlib host`), which answers valid,
+//! falsified with tables that make the formula false, stopped where the budget ends first, or
+//! refused. [`reference::decide`] is a second implementation, written from documents 01 and 02
+//! alone; the tests compare the two on many generated problems. [`host::read`] and
 //! [`reference::read`] make a problem of solver text, SMT-LIB 2.6 (document 02, E1).
 //!
 //! ```
@@ -14,9 +15,9 @@
 //! let mut p = Problem::new();
 //! let (x, y) = (p.function("x", 0), p.function("y", 0));
 //! let (x, y) = (p.apply(x, &[]), p.apply(y, &[]));
-//! p.equal(x, y);
+//! let root = p.equal(x, y).node();
 //! let (mut work, mut witness) = ([0; WORK_LEN], [0; WITNESS_LEN]);
-//! let answer = host::decide(u64::MAX, &p.bytes(), &mut work, &mut witness);
+//! let answer = host::decide(u64::MAX, root, &p.bytes(), &mut work, &mut witness);
 //! assert_eq!(answer, Answer::Falsified { tried: 2, product: 2, witness_len: 16 });
 //! assert_eq!(p.explain(&witness), "x = 1, y = 2");
 //! ```
@@ -57,9 +58,9 @@ pub const PROBLEM_LEN: usize = 2_088;
 /// What a decision answers.
 #[derive(Clone, Copy, Debug, PartialEq, Eq)]
 pub enum Answer {
-    /// The problem, a buffer or the product broke a condition.
+    /// The problem, the root, a buffer or the product broke a condition.
     Refused {
-        /// The refusal number, 1 to 13.
+        /// The refusal number: 1 to 7, 9 to 13, or 16.
         number: u8,
         /// The first wrong symbol or node for refusals 6 and 7, else 0.
         place: u64,

@@ -20,7 +20,29 @@ pub struct Term(u16);
 #[derive(Clone, Copy, Debug, PartialEq, Eq)]
 pub struct Formula(u16);
 
-/// A problem under construction; its last node is the formula asked.
+impl Term {
+    /// Its number.
+    pub fn node(self) -> usize {
+        usize::from(self.0)
+    }
+}
+
+impl Formula {
+    /// Its number, by which a call names it as the root.
+    pub fn node(self) -> usize {
+        usize::from(self.0)
+    }
+}
+
+/// The number of the last node, as the header of some problem bytes counts them: the root that the
+/// night run names. 0 where there is no header, or no node: such bytes are refused before a root
+/// is looked at.
+pub fn last_node(problem: &[u8]) -> usize {
+    let count = problem.get(6..8).and_then(|count| count.try_into().ok());
+    usize::from(count.map_or(0, u16::from_le_bytes)).saturating_sub(1)
+}
+
+/// A problem under construction. Any of its formulas can be asked.
 #[derive(Clone, Debug, Default)]
 pub struct Problem {
     names: Vec<String>,

@@ -98,14 +98,30 @@ pub fn ackermann() -> Problem {
     p
 }
 
-/// Three applications of a predicate of arity 3: q(x, y, x), q(y, x, x) and, asked, q(x, x, y).
+/// Document 02's table of two departments: the voice group asks x = y, node 2, and the effects
+/// group has appended z, f(z), f(x) and, asked by it, f(z) = f(x).
+pub fn two_departments() -> Problem {
+    let mut p = Problem::new();
+    let [x, y, z] = ["x", "y", "z"].map(|name| p.function(name, 0));
+    let f = p.function("f", 1);
+    let (x, y) = (p.apply(x, &[]), p.apply(y, &[]));
+    p.equal(x, y);
+    let z = p.apply(z, &[]);
+    let (fz, fx) = (p.apply(f, &[z]), p.apply(f, &[x]));
+    p.equal(fz, fx);
+    p
+}
+
+/// Three applications of a predicate of arity 3: q(x, y, x), or q(y, x, x), or q(x, x, y).
 pub fn three_tests() -> Problem {
     let mut p = Problem::new();
     let x = variables(&mut p, "x", 2);
     let q = p.predicate("q", 3);
-    p.test(q, &[x[0], x[1], x[0]]);
-    p.test(q, &[x[1], x[0], x[0]]);
-    p.test(q, &[x[0], x[0], x[1]]);
+    let first = p.test(q, &[x[0], x[1], x[0]]);
+    let second = p.test(q, &[x[1], x[0], x[0]]);
+    let third = p.test(q, &[x[0], x[0], x[1]]);
+    let either = p.or(first, second);
+    p.or(either, third);
     p
 }
 

@@ -7,13 +7,13 @@ use crate::reference::{check, Checked, Node, Op, Refusal, Sort};
 /// What comes before the jobs: the logic, and the one sort of values.
 pub const PREAMBLE: &str = "(set-logic QF_UF)\n(declare-sort V 0)\n";
 
-/// One problem between push and pop: unsat says that it is valid, sat that it is falsified.
+/// A problem's root between push and pop: unsat says that it is valid, sat that it is falsified.
 ///
 /// Each node becomes a definition `n` and its number. The values are of a sort of their own
 /// instead of whole numbers: a formula without quantifiers fails in some interpretation of the
 /// one kind if and only if it fails in one of the other.
-pub fn job(problem: &[u8]) -> Result<String, Refusal> {
-    let problem = check(problem)?;
+pub fn job(problem: &[u8], root: usize) -> Result<String, Refusal> {
+    let problem = check(problem, root)?;
     let mut text = String::from("(push 1)\n");
     for (number, &symbol) in problem.symbols.iter().enumerate() {
         let arguments = ["V"; 3][..usize::from(symbol % 16)].join(" ");
@@ -34,7 +34,6 @@ pub fn job(problem: &[u8]) -> Result<String, Refusal> {
             format_args!("(define-fun n{number} () {sort} {meaning})"),
         );
     }
-    let root = problem.nodes.len() - 1;
     line(
         &mut text,
         format_args!("(assert (not n{root}))\n(check-sat)\n(pop 1)"),
@@ -47,11 +46,6 @@ fn line(text: &mut String, what: std::fmt::Arguments) {
 }
 
 fn meaning(problem: &Checked, node: &Node) -> String {
-    let arity = if node.op.is_application() {
-        problem.arity(node)
-    } else {
-        0
-    };
     let head = match node.op {
         Op::Apply | Op::Test => format!("s{}", node.symbol),
         Op::Choose | Op::Select => "ite".into(),
@@ -62,7 +56,7 @@ fn meaning(problem: &Checked, node: &Node) -> String {
         Op::True => "true".into(),
         Op::False => "false".into(),
     };
-    let used = &node.operands[..node.op.takes(arity).len()];
+    let used = problem.used(node);
     if used.is_empty() {
         return head;
     }
@@ -89,7 +83,7 @@ mod tests {
             (define-fun n3 () V (ite n0 n1 n2))\n\
             (define-fun n4 () Bool (= n3 n1))\n\
             (assert (not n4))\n(check-sat)\n(pop 1)\n";
-        assert_eq!(job(&samples::row(9).bytes()).as_deref(), Ok(wanted));
+        assert_eq!(job(&samples::row(9).bytes(), 4).as_deref(), Ok(wanted));
     }
 
     /// Nodes of every op, and applications of every arity.
@@ -146,13 +140,25 @@ mod tests {
             (define-fun n14 () Bool false)\n\
             (define-fun n15 () Bool (ite n12 n13 n14))\n\
             (assert (not n15))\n(check-sat)\n(pop 1)\n";
-        assert_eq!(job(&of_every_op().bytes()).as_deref(), Ok(wanted));
+        assert_eq!(job(&of_every_op().bytes(), 15).as_deref(), Ok(wanted));
+    }
+
+    /// Another root of the same nodes is asserted in the last one's place.
+    #[test]
+    fn another_root() {
+        let bytes = of_every_op().bytes();
+        let text = |root| job(&bytes, root).expect("accepted");
+        assert_eq!(text(10), text(15).replace("(not n15)", "(not n10)"));
     }
 
     #[test]
     fn refused() {
-        let refusal = job(b"EQP").expect_err("too short");
-        assert_eq!((refusal.number, refusal.place), (1, 0));
+        let refused = |problem: &[u8], root| {
+            let refusal = job(problem, root).expect_err("refused");
+            (refusal.number, refusal.place)
+        };
+        assert_eq!(refused(b"EQP", 0), (1, 0));
+        assert_eq!(refused(&samples::row(9).bytes(), 3), (16, 0));
     }
 
     #[test]

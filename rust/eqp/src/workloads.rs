@@ -42,8 +42,8 @@ pub fn tables() -> Vec<Workload> {
 /// One table at five sizes: always 32 nodes, and 6! to 10! places.
 pub fn sizes() -> [Workload; 5] {
     [6, 7, 8, 9, SIZED].map(|count| Workload {
-        name: "chain to and fro",
-        problem: to_and_fro(count).bytes(),
+        name: "chain, and others alone",
+        problem: partly_linked(count).bytes(),
         budget: u64::MAX,
     })
 }
@@ -60,25 +60,28 @@ pub fn small_jobs(count: usize) -> Vec<Vec<u8>> {
 pub fn chain(count: usize) -> Problem {
     let mut p = Problem::new();
     let x = variables(&mut p, "x", count);
-    linked(&mut p, &x);
+    let links = all_equal(&mut p, &x);
+    linked_ends(&mut p, links, &x);
     p
 }
 
-/// A chain of 9 links among 10 variables that goes to and fro between the first and this one:
-/// the others are in no equation and take one value.
-fn to_and_fro(count: usize) -> Problem {
+/// A chain of so many variables, and others up to ten, each equal to itself: the root reaches
+/// them too, by as many equations, and they take one value.
+fn partly_linked(count: usize) -> Problem {
     let mut p = Problem::new();
     let x = variables(&mut p, "x", SIZED);
-    let fro = (1..count - 1).rev();
-    let steps = (0..count).chain(fro).cycle().take(SIZED);
-    let steps: Vec<_> = steps.map(|i| x[i]).collect();
-    linked(&mut p, &steps);
+    let (chain, others) = x.split_at(count);
+    let mut links = all_equal(&mut p, chain);
+    for &other in others {
+        let equation = p.equal(other, other);
+        links = p.and(links, equation);
+    }
+    linked_ends(&mut p, links, chain);
     p
 }
 
-/// If each term is the next, then the first is the last.
-fn linked(p: &mut Problem, terms: &[Term]) {
-    let links = all_equal(p, terms);
+/// If the links hold, then the first is the last.
+fn linked_ends(p: &mut Problem, links: Formula, terms: &[Term]) {
     let ends = p.equal(terms[0], terms[terms.len() - 1]);
     implies(p, links, ends);
 }

@@ -2,7 +2,7 @@
 //! that are documented.
 
 use eqp::jobs::Jobs;
-use eqp::problem::{Problem, Term};
+use eqp::problem::{last_node, Problem, Term};
 use eqp::samples::{row, variables};
 
 /// Row 9 of document 01, with the bytes that docs/FORMAT.md works out.
@@ -80,6 +80,23 @@ fn high_bytes() {
     let bytes = p.bytes();
     assert_eq!(bytes[..8], [0x45, 0x51, 0x50, 1, 0, 0, 2, 1]);
     assert_eq!(bytes[8 + 8 * 257..], [9, 0, 1, 0, 0, 1, 255, 0]);
+}
+
+/// A node's number is how many stand before it, and the last one's is read from the header, both
+/// of its bytes; where there is no header or no node there is no last one to name.
+#[test]
+fn numbers_of_nodes() {
+    let mut p = Problem::new();
+    let x = p.function("x", 0);
+    let x: Vec<Term> = (0..258).map(|_| p.apply(x, &[])).collect();
+    let equation = p.equal(x[0], x[257]);
+    assert_eq!((x[257].node(), equation.node()), (257, 258));
+    assert_eq!(last_node(&p.bytes()), 258);
+    assert_eq!(last_node(&row(9).bytes()), 4);
+    assert_eq!(last_node(b"EQP\x01\x00\x00\xff\xff"), 65_534);
+    for none in [&b"EQP\x01\x00\x03\x00\x00"[..], b"EQP\x01\x00\x03\x05", b""] {
+        assert_eq!(last_node(none), 0);
+    }
 }
 
 /// Rows of arity 0 to 3, functions and predicates, both truth values, a value over 9.

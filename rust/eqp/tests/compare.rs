@@ -7,16 +7,17 @@ mod made;
 use std::thread;
 use std::time::Instant;
 
-use compared::lend::{Lender, Lengths};
+use compared::lend::{Asked, Lender, Lengths};
 use compared::notice::notice;
 use counted::calls::Call;
 use counted::floors::CALLS;
 use counted::tally::Tally;
+use eqp::problem::last_node;
 use eqp::{host, reference, workloads, Answer, ANSWER_LEN, WITNESS_LEN, WORK_LEN};
 use made::budgets::WIDE;
 use made::generate::{self, Shape};
 use made::rng::Rng;
-use made::{limits, refuse};
+use made::{limits, refuse, roots};
 
 /// A comparison under way.
 struct Comparison {
@@ -36,17 +37,19 @@ impl Comparison {
     }
 
     /// Compares one call, and counts it.
-    fn call(&mut self, budget: u64, problem: &[u8], lengths: Lengths) -> Option<Answer> {
-        let done = self.lender.call(&mut self.rng, budget, problem, lengths);
+    fn call(&mut self, asked: Asked, problem: &[u8], lengths: Lengths) -> Option<Answer> {
+        let done = self.lender.call(&mut self.rng, asked, problem, lengths);
         let answer = done.answer;
-        let call = Call::new(budget, problem, lengths, answer, done.witness.1);
+        let call = Call::new(asked, problem, lengths, answer, done.witness.1);
         self.tally.add(&call);
         answer
     }
 
-    /// Compares a problem with several budgets and lengths; no walk is longer than `most` places.
+    /// Compares a root of a problem with several budgets and lengths; no walk is longer than
+    /// `most` places.
     fn problem(&mut self, problem: &[u8], most: u64) {
-        let answer = self.call(most, problem, Lengths::EXACT);
+        let root = roots::any(&mut self.rng, problem);
+        let answer = self.call((most, root), problem, Lengths::EXACT);
         let budgets = match answer.expect("an exact answer buffer") {
             Answer::Refused { .. } => vec![most, 0, u64::MAX],
             Answer::Valid { tried, .. } | Answer::Falsified { tried, .. } => {
@@ -58,26 +61,35 @@ impl Comparison {
         for _ in 0..2 {
             let budget = *self.rng.pick(&budgets);
             let lengths = Lengths::any(&mut self.rng);
-            self.call(budget, problem, lengths);
+            self.call((budget, root), problem, lengths);
         }
     }
 
-    /// Compares a problem that must be refused, whatever the budget; with short buffers it may
-    /// be another refusal that comes first.
+    /// Compares a problem whose last node must be refused, whatever the budget, and before 16
+    /// whatever the root; with short buffers it may be another refusal that comes first.
     fn refusal(&mut self, problem: &[u8], number: u8, place: u64) {
+        let root = match number {
+            1..=7 => roots::any(&mut self.rng, problem),
+            _ => last_node(problem),
+        };
+        self.refusal_at(root, problem, number, place);
+    }
+
+    /// Compares a root that must be refused.
+    fn refusal_at(&mut self, root: usize, problem: &[u8], number: u8, place: u64) {
         let wanted = Some(Answer::Refused { number, place });
         for budget in [0, u64::MAX] {
-            assert_eq!(self.call(budget, problem, Lengths::EXACT), wanted);
+            assert_eq!(self.call((budget, root), problem, Lengths::EXACT), wanted);
         }
         let lengths = Lengths::any(&mut self.rng);
         let short = |number| Some(Answer::Refused { number, place: 0 });
         let wanted = match number {
             _ if lengths.answer < ANSWER_LEN => None,
-            11.. if lengths.work < WORK_LEN => short(11),
-            11.. if lengths.witness < WITNESS_LEN => short(12),
+            13 if lengths.work < WORK_LEN => short(11),
+            13 if lengths.witness < WITNESS_LEN => short(12),
             _ => wanted,
         };
-        assert_eq!(self.call(7, problem, lengths), wanted);
+        assert_eq!(self.call((7, root), problem, lengths), wanted);
     }
 
     fn small(&mut self) -> Vec<u8> {
@@ -145,24 +157,32 @@ fn well_formed(comparison: &mut Comparison) {
 /// Problems made to be refused, and those on both sides of each limit.
 fn refused(comparison: &mut Comparison) {
     for _ in 0..500 {
-        for number in 1..=8 {
+        for number in refuse::EDITS {
             let whole = comparison.small();
             let (bytes, place) = refuse::edit(&mut comparison.rng, number, &whole);
             comparison.refusal(&bytes, number, place);
         }
+        let whole = comparison.small();
+        let root = roots::wrong(&mut comparison.rng, &whole);
+        comparison.refusal_at(root, &whole, 16, 0);
         let functions = refuse::many_functions(&mut comparison.rng);
         comparison.refusal(&functions, 9, 0);
         let predicates = refuse::many_predicates(&mut comparison.rng);
         comparison.refusal(&predicates, 10, 0);
         let places = refuse::many_places(&mut comparison.rng);
         comparison.refusal(&places, 13, 0);
+        // Their other roots reach less, and mostly little enough.
+        for problem in [functions, predicates, places] {
+            comparison.problem(&problem, 50);
+        }
     }
     let groups = limits::groups().into_iter();
     for (bytes, refusal) in groups.flat_map(|(_, cases)| cases) {
         match refusal {
             Some((number, place)) => comparison.refusal(&bytes, number, place),
             None => {
-                let answer = comparison.call(50, &bytes, Lengths::EXACT);
+                let asked = (50, last_node(&bytes));
+                let answer = comparison.call(asked, &bytes, Lengths::EXACT);
                 assert!(!matches!(answer, Some(Answer::Refused { .. })));
                 (0..10).for_each(|_| comparison.problem(&bytes, 50));
             }

@@ -1,19 +1,19 @@
-//! What counts the generated calls is held against cases made by hand: the tallies, the facts of
-//! a problem, and the flaws of a node.
+//! What counts the generated calls is held against cases made by hand: the tallies, the calls and
+//! the flaws of a node.
 
 mod compared;
 mod counted;
 mod made;
 
-use compared::lend::Lengths;
+use compared::lend::{Asked, Lengths};
 use counted::calls::Call;
-use counted::facts::{only_flaw, Facts, Flaw};
+use counted::facts::{only_flaw, Flaw};
 use counted::floors::CALLS;
 use counted::lines::{Line, ENDS, LINES};
 use counted::readings::READINGS;
 use counted::tally::{Row, Tally};
-use eqp::problem::Problem;
-use eqp::samples::{ackermann, row, three_tests, variables};
+use eqp::problem::{last_node, Problem};
+use eqp::samples::row;
 use eqp::Answer;
 use made::budgets::WIDE;
 use made::{fields, limits};
@@ -60,11 +60,15 @@ fn nothing_is_too_few() {
 
 /// What is counted of a call with two truths for a problem, as plain as can be.
 fn counted(budget: u64, answer: Option<Answer>, lengths: Lengths) -> Vec<&'static str> {
+    counted_at((budget, 1), answer, lengths)
+}
+
+fn counted_at(asked: Asked, answer: Option<Answer>, lengths: Lengths) -> Vec<&'static str> {
     let mut p = Problem::new();
     p.yes();
     p.yes();
     let mut tally = Tally::new(CALLS);
-    tally.add(&Call::new(budget, &p.bytes(), lengths, answer, &[]));
+    tally.add(&Call::new(asked, &p.bytes(), lengths, answer, &[]));
     tally.counted()
 }
 
@@ -92,6 +96,36 @@ fn plain_calls() {
     assert_eq!(valid(1 << 16), with(&bits[..2]));
     assert_eq!(valid(1 << 32), with(&bits[..3]));
     assert_eq!(valid(1 << 63), with(&bits));
+}
+
+/// The first of the two truths asked; then roots that are refused, some of which are the number of
+/// a node in their low bits alone.
+#[test]
+fn roots_of_calls() {
+    let answered = |root, answer| counted_at((2, root), Some(answer), Lengths::EXACT);
+    let (tried, product) = (1, 1);
+    let first = answered(0, Answer::Valid { tried, product });
+    let plain = ["calls", "op 7, true", "no applications"];
+    assert_eq!(
+        first,
+        [&plain[..], &["a root before the last node"]].concat()
+    );
+    let (number, place) = (16, 0);
+    let refused = |root| answered(root, Answer::Refused { number, place });
+    let with = |more: &[&'static str]| [&["calls"], more, &["refusal 16"]].concat();
+    assert_eq!(refused(1), with(&["refusal 16, a term"]));
+    assert_eq!(refused(2), with(&["refusal 16, one past the last node"]));
+    assert_eq!(refused(3), with(&[]));
+    let bits = [
+        "refusal 16, 8 bits are a node",
+        "refusal 16, 16 bits are a node",
+        "refusal 16, 32 bits are a node",
+        "refusal 16, 63 bits are a node",
+    ];
+    assert_eq!(refused((1 << 8) + 1), with(&bits[..1]));
+    assert_eq!(refused(1 << 16), with(&bits[..2]));
+    assert_eq!(refused((1 << 32) + 1), with(&bits[..3]));
+    assert_eq!(refused(1 << 63), with(&bits));
 }
 
 #[test]
@@ -150,85 +184,6 @@ fn a_line_of_another_job() {
     Line::read(12, 0, 0, "JOB 13 VALID 1 1");
 }
 
-/// Document 004's example: F(x1) comes twice, far apart, and F three times. Its table has 3
-/// variables, 3 own variables, 2 + 4 nodes for the pairs, and 7 others.
-#[test]
-fn facts_of_the_ackermann_example() {
-    let mut wanted = Facts {
-        arities: [[true, true, false, false], [false; 4]],
-        repeat: [true, false],
-        far_repeat: [true, false],
-        near_repeat: [true, false, false],
-        threefold: [true, false],
-        congruence: [true, false],
-        distinct: [6, 0],
-        table_nodes: 19,
-        ..Facts::default()
-    };
-    for op in [0, 2, 3, 5] {
-        wanted.ops[op] = true;
-    }
-    assert_eq!(Facts::of(&ackermann().bytes()), wanted);
-    assert_eq!(wanted.most_places(), 720);
-}
-
-/// q(x, y, x), q(y, x, x) and q(x, x, y) differ in two operands, each two of them; the first two
-/// are not reached.
-#[test]
-fn facts_of_three_tests() {
-    let mut wanted = Facts {
-        arities: [[true, false, false, false], [false, false, false, true]],
-        threefold: [false, true],
-        unreached: [false, true],
-        distinct: [2, 3],
-        table_nodes: 23,
-        ..Facts::default()
-    };
-    wanted.ops[0] = true;
-    wanted.ops[6] = true;
-    assert_eq!(Facts::of(&three_tests().bytes()), wanted);
-    assert_eq!(wanted.most_places(), 16);
-}
-
-/// f(x, x, x) and f with y for the last, then for the second argument; q, and at once q again.
-#[test]
-fn facts_of_repeats() {
-    let mut p = Problem::new();
-    let (f, q) = (p.function("f", 3), p.predicate("q", 0));
-    let x = variables(&mut p, "x", 2);
-    let fxx = p.apply(f, &[x[0], x[0], x[0]]);
-    let fxy = p.apply(f, &[x[0], x[0], x[1]]);
-    p.test(q, &[]);
-    p.test(q, &[]);
-    let mut facts = Facts::of(&p.bytes());
-    assert_eq!(
-        (facts.repeat, facts.far_repeat),
-        ([false, true], [false; 2])
-    );
-    assert_eq!(facts.near_repeat, [false, false, true]);
-    assert_eq!((facts.root_repeats, facts.unreached), (true, [true, true]));
-    assert_eq!(facts.threefold, [false; 2]);
-    p.apply(f, &[x[0], x[1], x[1]]);
-    p.yes();
-    facts = Facts::of(&p.bytes());
-    assert_eq!(facts.near_repeat, [false, true, true]);
-    assert_eq!(
-        (facts.root_repeats, facts.threefold),
-        (false, [true, false])
-    );
-    assert!(!facts.equated_choice && Facts::of(&row(9).bytes()).equated_choice);
-    let congruence = |number| Facts::of(&row(number).bytes()).congruence;
-    let whole = [true, false];
-    assert_eq!(
-        [4, 5, 6, 12].map(congruence),
-        [whole, whole, [false; 2], whole]
-    );
-    p.equal(fxx, fxy);
-    assert_eq!(Facts::of(&p.bytes()).congruence, [false; 2]);
-    p.equal(x[0], x[1]);
-    assert_eq!(Facts::of(&p.bytes()).congruence, [false, true]);
-}
-
 /// Rows 9 and 5 falsified: no rows coincide, f(1) and f(2) differ. In row 12 x = y at place 1, and both rows of f are f(1).
 #[test]
 fn coinciding_rows() {
@@ -239,7 +194,8 @@ fn coinciding_rows() {
             witness_len: witness.len(),
         });
         let bytes = row(number).bytes();
-        Call::new(1, &bytes, Lengths::EXACT, answer, witness).coinciding
+        let asked = (1, last_node(&bytes));
+        Call::new(asked, &bytes, Lengths::EXACT, answer, witness).coinciding
     };
     let nine = b"EQW\x01\x00\x03\0\0\0\0\0\x01\0\0\0\x01\x02\0\0\0\x02";
     assert_eq!(coinciding(9, nine), [None, None]);

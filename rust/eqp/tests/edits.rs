@@ -6,6 +6,7 @@ mod made;
 
 use counted::facts::{only_flaw, Facts, Flaw};
 use counted::tally::{Row, Tally};
+use eqp::problem::last_node;
 use made::generate::{self, Shape};
 use made::refuse;
 use made::rng::Rng;
@@ -54,7 +55,7 @@ impl Edit {
     }
 }
 
-/// 3,000 edits for each of refusals 1 to 8.
+/// 3,000 edits for each of refusals 1 to 7 and 16.
 #[rustfmt::skip] // One row on a line.
 const EDITS: &[Row<Edit>] = &[
     ("1, no bytes", |e| e.is(1) && e.bytes.is_empty(), 100),
@@ -91,14 +92,14 @@ const EDITS: &[Row<Edit>] = &[
     ("7, operand 1 is not used", |e| e.is(7) && e.flaw() == Some(Flaw::Unused(0)), 90),
     ("7, operand 2 is not used", |e| e.is(7) && e.flaw() == Some(Flaw::Unused(1)), 100),
     ("7, operand 3 is not used", |e| e.is(7) && e.flaw() == Some(Flaw::Unused(2)), 200),
-    ("8, a term asked", |e| e.is(8) && e.longer(), 1_000),
+    ("16, a term asked", |e| e.is(16) && e.longer(), 1_000),
 ];
 
 #[test]
 fn edits() {
     let mut rng = Rng::new(1);
     let mut tally = Tally::new(EDITS);
-    for number in 1..=8 {
+    for number in refuse::EDITS {
         for _ in 0..3_000 {
             let shape = Shape::small(&mut rng);
             let whole = generate::problem(&mut rng, shape).bytes();
@@ -136,9 +137,14 @@ fn too_many() {
     let mut rng = Rng::new(1);
     let mut tally = Tally::new(MANY);
     for _ in 0..2_000 {
-        tally.add(&(9, Facts::of(&refuse::many_functions(&mut rng))));
-        tally.add(&(10, Facts::of(&refuse::many_predicates(&mut rng))));
-        tally.add(&(13, Facts::of(&refuse::many_places(&mut rng))));
+        let many = [
+            (9, refuse::many_functions(&mut rng)),
+            (10, refuse::many_predicates(&mut rng)),
+            (13, refuse::many_places(&mut rng)),
+        ];
+        for (number, bytes) in many {
+            tally.add(&(number, Facts::of(&bytes, last_node(&bytes))));
+        }
     }
     println!("{tally}");
     tally.expect_enough();

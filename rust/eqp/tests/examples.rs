@@ -5,7 +5,7 @@ use std::fs;
 use std::path::Path;
 
 use eqp::jobs::Jobs;
-use eqp::problem::Problem;
+use eqp::problem::{last_node, Problem};
 use eqp::{host, reference, samples, Answer, WITNESS_LEN, WORK_LEN};
 
 fn expect_file(name: &str, jobs: &Jobs) {
@@ -27,8 +27,16 @@ fn files() {
 /// The answers of the library and of the reference, which are the same.
 fn decide(problem: &Problem) -> Answer {
     let (mut work, mut witness) = (vec![0; WORK_LEN], vec![0; WITNESS_LEN]);
-    let library = host::decide(1_000_000, &problem.bytes(), &mut work, &mut witness);
-    let reference = reference::decide(1_000_000, &problem.bytes(), &mut work, &mut witness);
+    let bytes = problem.bytes();
+    let [library, reference] = [host::decide, reference::decide].map(|decide| {
+        decide(
+            1_000_000,
+            last_node(&bytes),
+            &bytes,
+            &mut work,
+            &mut witness,
+        )
+    });
     assert_eq!(library, reference);
     reference
 }

@@ -10,6 +10,7 @@ use std::collections::BTreeSet;
 use compared::lend::Lengths;
 use counted::facts::Facts;
 use counted::tally::{Row, Tally};
+use eqp::problem::last_node;
 use eqp::{ANSWER_LEN, WITNESS_LEN, WORK_LEN};
 use made::generate::{self, Shape};
 use made::limits;
@@ -92,7 +93,9 @@ const SMALL: &[Row<Facts>] = &[
     ("a predicate three times", |f| f.threefold[1], 20),
     ("functions not reached", |f| f.unreached[0], 3_000),
     ("predicates not reached", |f| f.unreached[1], 1_000),
-    ("a repeat asked", |f| f.root_repeats, 200),
+    ("functions whose earlier equals are not reached", |f| f.unreached_twin[0], 300),
+    ("predicates whose earlier equals are not reached", |f| f.unreached_twin[1], 300),
+    ("an earlier node equals the root", |f| f.root_repeats, 100),
     ("choices in equations", |f| f.equated_choice, 1_000),
     ("equations of a function and its arguments", |f| f.congruence[0], 300),
     ("equations of a function and some arguments", |f| f.congruence[1], 100),
@@ -111,17 +114,17 @@ const LARGE: &[Row<Facts>] = &[
     ("predicates of arity 3", |f| f.arities[1][3], 600),
     ("functions of arity 3 alone", |f| f.arities[0] == [true, false, false, true], 300),
     ("a function three times", |f| f.threefold[0], 700),
-    ("a predicate three times", |f| f.threefold[1], 500),
+    ("a predicate three times", |f| f.threefold[1], 400),
     ("all but repeats, operand 3", |f| f.near_repeat[2], 90),
-    ("far repeats of functions", |f| f.far_repeat[0], 600),
-    ("far repeats of predicates", |f| f.far_repeat[1], 600),
+    ("far repeats of functions", |f| f.far_repeat[0], 500),
+    ("far repeats of predicates", |f| f.far_repeat[1], 400),
     ("functions not reached", |f| f.unreached[0], 800),
-    ("equations of a function and its arguments", |f| f.congruence[0], 600),
-    ("equations of a function and some arguments", |f| f.congruence[1], 400),
-    ("20 functions and more", |f| f.distinct[0] >= 20, 10),
-    ("12 predicates and more", |f| f.distinct[1] >= 12, 50),
-    ("tables up to 86 nodes", |f| f.table_nodes <= 86, 40),
-    ("tables over 86 nodes", |f| f.table_nodes > 86, 800),
+    ("equations of a function and its arguments", |f| f.congruence[0], 500),
+    ("equations of a function and some arguments", |f| f.congruence[1], 300),
+    ("20 functions and more", |f| f.distinct[0] >= 20, 5),
+    ("12 predicates and more", |f| f.distinct[1] >= 12, 20),
+    ("tables up to 86 nodes", |f| f.table_nodes <= 86, 600),
+    ("tables over 86 nodes", |f| f.table_nodes > 86, 700),
     ("tables over 500 nodes", |f| f.table_nodes > 500, 100),
 ];
 
@@ -131,7 +134,7 @@ fn expect_shapes(rows: &'static [Row<Facts>], count: usize, shape: fn(&mut Rng) 
     for _ in 0..count {
         let shape = shape(&mut rng);
         let problem = generate::problem(&mut rng, shape).bytes();
-        tally.add(&Facts::of(&problem));
+        tally.add(&Facts::of(&problem, last_node(&problem)));
     }
     println!("{tally}");
     tally.expect_enough();

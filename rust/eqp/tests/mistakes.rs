@@ -8,11 +8,10 @@ use std::panic::{self, AssertUnwindSafe};
 
 use compared::both::Decide;
 use compared::effects::expect_effects;
-use compared::lend::{Done, Lender, Lengths, Raw};
-use compared::replay::{is_true, is_true_at_random, is_true_by, table_nodes};
-use eqp::problem::{Formula, Problem};
-use eqp::samples::{ackermann, row, three_tests};
-use eqp::{host, reference, workloads, Answer, ANSWER_LEN, WITNESS_LEN, WORK_LEN};
+use compared::lend::{Asked, Done, Lender, Lengths, Raw};
+use eqp::problem::last_node;
+use eqp::samples::row;
+use eqp::{host, reference, Answer, ANSWER_LEN, WITNESS_LEN, WORK_LEN};
 use made::rng::Rng;
 
 /// Longer buffers than there need be.
@@ -23,20 +22,24 @@ const LONG: Lengths = Lengths {
 };
 
 fn is_noticed(library: Raw, budget: u64, problem: &[u8], lengths: Lengths) -> bool {
-    both_are_noticed(reference::decide, library, budget, problem, lengths)
+    is_noticed_at(library, (budget, last_node(problem)), problem, lengths)
+}
+
+fn is_noticed_at(library: Raw, asked: Asked, problem: &[u8], lengths: Lengths) -> bool {
+    both_are_noticed(reference::decide, library, asked, problem, lengths)
 }
 
 fn both_are_noticed(
     reference: Decide,
     library: Raw,
-    budget: u64,
+    asked: Asked,
     problem: &[u8],
     lengths: Lengths,
 ) -> bool {
     let mut rng = Rng::new(1);
     let mut lender = Lender::new(&mut rng, reference, library);
     let call = || {
-        lender.call(&mut rng, budget, problem, lengths);
+        lender.call(&mut rng, asked, problem, lengths);
     };
     panic::catch_unwind(AssertUnwindSafe(call)).is_err()
 }
@@ -44,8 +47,8 @@ fn both_are_noticed(
 /// A library that does as the proved one, and then something to the buffers.
 macro_rules! mistake {
     ($work:ident, $witness:ident, $answer:ident: $mistake:expr) => {
-        |budget, problem, $work, $witness, $answer| {
-            let returned = host::raw_decide(budget, problem, $work, $witness, $answer);
+        |budget, root, problem, $work, $witness, $answer| {
+            let returned = host::raw_decide(budget, root, problem, $work, $witness, $answer);
             let _ = (&$work, &$witness, &$answer);
             $mistake;
             returned
@@ -90,16 +93,16 @@ fn mistakes_in_the_buffers() {
 fn mistakes_on_both_sides() {
     let mistakes: [(Decide, Raw); 2] = [
         (
-            |budget, problem, work, witness| {
-                let answer = reference::decide(budget, problem, work, witness);
+            |budget, root, problem, work, witness| {
+                let answer = reference::decide(budget, root, problem, work, witness);
                 work[8 * 10] ^= 1;
                 answer
             },
             mistake!(work, witness, answer: work[8 * 10] ^= 1),
         ),
         (
-            |budget, problem, work, witness| {
-                let answer = reference::decide(budget, problem, work, witness);
+            |budget, root, problem, work, witness| {
+                let answer = reference::decide(budget, root, problem, work, witness);
                 witness[6 + 5 * 4] ^= 1;
                 answer
             },
@@ -108,7 +111,7 @@ fn mistakes_on_both_sides() {
     ];
     let five = row(5).bytes();
     for (reference, library) in mistakes {
-        assert!(both_are_noticed(reference, library, 9, &five, LONG));
+        assert!(both_are_noticed(reference, library, (9, 7), &five, LONG));
     }
 }
 
@@ -116,10 +119,10 @@ fn mistakes_on_both_sides() {
 fn mistakes_in_the_call() {
     let five = row(5).bytes();
     let cut: [Raw; 4] = [
-        |budget, p, w, v, a| host::raw_decide(u64::from(budget as u32), p, w, v, a),
-        |budget, p, w, v, a| host::raw_decide(budget, p, &mut w[1..], v, a),
-        |budget, p, w, v, a| host::raw_decide(budget, p, w, &mut v[1..], a),
-        |budget, p, w, v, a| host::raw_decide(budget, &p[..p.len() - 1], w, v, a),
+        |b, r, p, w, v, a| host::raw_decide(u64::from(b as u32), r, p, w, v, a),
+        |b, r, p, w, v, a| host::raw_decide(b, r, p, &mut w[1..], v, a),
+        |b, r, p, w, v, a| host::raw_decide(b, r, p, w, &mut v[1..], a),
+        |b, r, p, w, v, a| host::raw_decide(b, r, &p[..p.len() - 1], w, v, a),
     ];
     for (i, mistake) in cut.into_iter().enumerate() {
         assert!(
@@ -127,102 +130,30 @@ fn mistakes_in_the_call() {
             "mistake {i}"
         );
     }
-    let silent: Raw = |b, p, w, v, a| host::raw_decide(b, p, w, v, a) ^ 1;
+    let silent: Raw = |b, r, p, w, v, a| host::raw_decide(b, r, p, w, v, a) ^ 1;
     assert!(is_noticed(silent, 9, &five, LONG));
     let short = Lengths { answer: 31, ..LONG };
     assert!(!is_noticed(host::raw_decide, 9, &five, short));
     assert!(is_noticed(silent, 9, &five, short));
 }
 
-/// Row 5's tables by its witness, x = 1, y = 2 and f 1 everywhere: false. With y = 1, true; with
-/// f(2) = 2, true; and with no row for y, which is 0 then, and for f(0), still false.
+/// Row 5 asked for x = y, node 6, for a term, for no node, and for numbers whose low bits are a
+/// formula's.
 #[test]
-fn truth_by_a_witness() {
+fn mistakes_in_the_root() {
     let five = row(5).bytes();
-    let by = |rows: &[[u8; 5]]| {
-        let head = [b'E', b'Q', b'W', 1, 0, rows.len() as u8];
-        is_true_by(&five, &[&head[..], &rows.concat()].concat())
-    };
-    let (x, f1) = ([0, 0, 0, 0, 1], [2, 1, 0, 0, 1]);
-    assert!(!by(&[x, [1, 0, 0, 0, 2], f1, [2, 2, 0, 0, 1]]));
-    assert!(by(&[x, [1, 0, 0, 0, 1], f1, f1]));
-    assert!(by(&[x, [1, 0, 0, 0, 2], f1, [2, 2, 0, 0, 2]]));
-    assert!(by(&[x, f1]));
-    assert!(!by(&[x, [2, 1, 0, 0, 0]]));
-}
-
-#[test]
-#[should_panic(expected = "two values")]
-fn rows_that_contradict() {
-    is_true_by(&row(8).bytes(), b"EQW\x01\x00\x02\0\0\0\0\x01\0\0\0\0\0");
-}
-
-#[test]
-#[should_panic(expected = "an unused argument")]
-fn an_argument_too_many() {
-    is_true_by(&row(8).bytes(), b"EQW\x01\x00\x01\0\0\0\x01\x01");
-}
-
-#[test]
-#[should_panic(expected = "the count of rows")]
-fn a_row_too_few() {
-    is_true_by(&row(8).bytes(), b"EQW\x01\x00\x02\0\0\0\0\x01");
-}
-
-#[test]
-#[should_panic(expected = "the witness's start")]
-fn another_version() {
-    is_true_by(&row(8).bytes(), b"EQW\x02\x00\x01\0\0\0\0\x01");
-}
-
-/// The truth tables of the connectives, for p false and true, q false, then again for q true.
-#[test]
-fn connectives() {
-    let table = |make: fn(&mut Problem, Formula, Formula) -> Formula| {
-        let mut problem = Problem::new();
-        let (p, q) = (problem.predicate("p", 0), problem.predicate("q", 0));
-        let (p, q) = (problem.test(p, &[]), problem.test(q, &[]));
-        make(&mut problem, p, q);
-        let bytes = problem.bytes();
-        [[0, 0], [1, 0], [0, 1], [1, 1]]
-            .map(|values: [u64; 2]| is_true(&bytes, |symbol, _| values[usize::from(symbol)]))
-    };
-    let (f, t) = (false, true);
-    assert_eq!(table(|_, _, q| q), [f, f, t, t]);
-    assert_eq!(table(|problem, p, _| problem.not(p)), [t, f, t, f]);
-    assert_eq!(table(|problem, p, q| problem.and(p, q)), [f, f, f, t]);
-    assert_eq!(table(|problem, p, q| problem.or(p, q)), [f, t, t, t]);
-    assert_eq!(table(|problem, p, q| problem.select(p, q, p)), [f, f, f, t]);
-    assert_eq!(table(|problem, p, q| problem.select(p, p, q)), [f, t, t, t]);
-    assert_eq!(table(|problem, _, _| problem.yes()), [t, t, t, t]);
-    assert_eq!(table(|problem, _, _| problem.no()), [f, f, f, f]);
-}
-
-/// Valid rows are true at random, and of the others some are false.
-#[test]
-fn truth_at_random() {
-    let trues = |number: usize| {
-        let bytes = row(number).bytes();
-        (1..=64)
-            .filter(|&seed| is_true_at_random(&bytes, seed, 3))
-            .count()
-    };
-    for number in [1, 4, 7, 10] {
-        assert_eq!(trues(number), 64, "row {number}");
+    let noticed = |library, root| is_noticed_at(library, (9, root), &five, LONG);
+    let last: Raw = |b, _, p, w, v, a| host::raw_decide(b, last_node(p), p, w, v, a);
+    let nearest: Raw = |b, r, p, w, v, a| host::raw_decide(b, r.min(7), p, w, v, a);
+    let byte: Raw = |b, r, p, w, v, a| host::raw_decide(b, r % (1 << 8), p, w, v, a);
+    let narrow: Raw = |b, r, p, w, v, a| host::raw_decide(b, r % (1 << 16), p, w, v, a);
+    let half: Raw = |b, r, p, w, v, a| host::raw_decide(b, r % (1 << 32), p, w, v, a);
+    for root in [6, 0, 8, 256 + 7, (1 << 16) + 7, (1 << 32) + 7, usize::MAX] {
+        assert!(!noticed(host::raw_decide, root) && noticed(last, root));
     }
-    for number in [2, 3, 5, 6, 8, 9, 12] {
-        assert!((1..64).contains(&trues(number)), "row {number}");
-    }
-    assert_eq!(trues(11), 0);
-}
-
-#[test]
-fn nodes_of_tables() {
-    assert_eq!(table_nodes(&row(4).bytes()), 10);
-    assert_eq!(table_nodes(&row(11).bytes()), 1);
-    assert_eq!(table_nodes(&ackermann().bytes()), 19);
-    assert_eq!(table_nodes(&three_tests().bytes()), 23);
-    assert_eq!(table_nodes(&workloads::largest().bytes()), 2_494);
+    assert!(noticed(nearest, 8) && noticed(nearest, usize::MAX));
+    assert!(noticed(byte, 256 + 7) && noticed(narrow, (1 << 16) + 7));
+    assert!(noticed(half, (1 << 32) + 7));
 }
 
 /// Whether a wrong effect is noticed: the reference decides a row, then the answer or the buffers
@@ -231,14 +162,21 @@ fn effect_is_noticed(number: usize, change: fn(&mut Option<Answer>, &mut [u8], &
     let problem = row(number).bytes();
     let before = (vec![0xaa; WORK_LEN], vec![0xaa; WITNESS_LEN]);
     let (mut work, mut witness) = before.clone();
-    let mut answer = Some(reference::decide(9, &problem, &mut work, &mut witness));
+    let root = last_node(&problem);
+    let mut answer = Some(reference::decide(
+        9,
+        root,
+        &problem,
+        &mut work,
+        &mut witness,
+    ));
     change(&mut answer, &mut work, &mut witness);
     let done = Done {
         answer,
         work: (&before.0, &work),
         witness: (&before.1, &witness),
     };
-    panic::catch_unwind(AssertUnwindSafe(|| expect_effects(&problem, &done))).is_err()
+    panic::catch_unwind(AssertUnwindSafe(|| expect_effects(&problem, root, &done))).is_err()
 }
 
 #[test]

@@ -15,13 +15,13 @@ use counted::facts::Facts;
 use counted::lines::{Line, ENDS, LINES};
 use counted::tally::Tally;
 use eqp::jobs::Jobs;
-use eqp::problem::Problem;
+use eqp::problem::{last_node, Problem};
 use eqp::reference;
 use eqp::samples::{self, row, variables};
 use made::budgets::WIDE;
 use made::generate::{self, Shape};
-use made::refuse;
 use made::rng::Rng;
+use made::{refuse, roots};
 
 /// How many jobs the stream has.
 const JOBS: usize = 10_000;
@@ -58,10 +58,13 @@ fn expect_cut_sample(night: impl Fn(&[u8]) -> Vec<u8>) {
     }
 }
 
+/// A job's budget and problem, and its line after the number.
+type Job = (u64, Vec<u8>, &'static str);
+
 /// Jobs whose numbers use all their bytes or digits, and their lines: budgets that are ample while
 /// their low bits are not, the product of nineteen variables, a place of three digits, the longest
 /// job.
-fn long_numbers() -> Vec<(u64, Vec<u8>, &'static str)> {
+fn long_numbers() -> Vec<Job> {
     let mut jobs = Vec::new();
     for budget in WIDE {
         jobs.push((budget, row(4).bytes(), "VALID 4 4"));
@@ -69,8 +72,10 @@ fn long_numbers() -> Vec<(u64, Vec<u8>, &'static str)> {
     }
     let mut nineteen = Problem::new();
     let x = variables(&mut nineteen, "x", 19);
+    let mut root = nineteen.no();
     for pair in x.windows(2) {
-        nineteen.equal(pair[0], pair[1]);
+        let equation = nineteen.equal(pair[0], pair[1]);
+        root = nineteen.or(root, equation);
     }
     let nineteen = nineteen.bytes();
     jobs.push((0, nineteen.clone(), "STOPPED 0 121645100408832000"));
@@ -87,10 +92,25 @@ fn long_numbers() -> Vec<(u64, Vec<u8>, &'static str)> {
     jobs
 }
 
-fn expect_long_numbers(night: impl Fn(&[u8]) -> Vec<u8>) {
+/// Tables whose last node is one of several formulas, or a term. Document 02's two departments
+/// with 3 and with 7 nodes: x = y, then f(z) = f(x); with 6 nodes f(x) comes last. A header alone,
+/// with no nodes and with one.
+fn last_nodes() -> Vec<Job> {
+    let two = samples::two_departments().bytes();
+    vec![
+        (9, roots::cut(&two, 3), "FALSIFIED 2 2"),
+        (9, two.clone(), "FALSIFIED 4 4"),
+        (9, roots::cut(&two, 6), "REFUSED 16 0"),
+        (9, roots::cut(&two, 1), "REFUSED 16 0"),
+        (9, b"EQP\x01\x00\x00\x00\x00".to_vec(), "REFUSED 4 0"),
+        (9, b"EQP\x01\x00\x00\x01\x00".to_vec(), "REFUSED 5 0"),
+    ]
+}
+
+fn expect_worked_lines(night: impl Fn(&[u8]) -> Vec<u8>) {
     let mut jobs = Jobs::new();
     let mut wanted = String::from("EQP NIGHT 1\n");
-    let all = long_numbers();
+    let all = [long_numbers(), last_nodes()].concat();
     for (number, (budget, problem, line)) in (1..).zip(&all) {
         jobs.push(*budget, problem);
         wanted += &format!("JOB {number} {line}\n");
@@ -104,7 +124,7 @@ fn sample_by_the_reference() {
     let lines = reference::night(samples::sample_night().bytes());
     assert_eq!(text(&lines), SAMPLE);
     expect_cut_sample(reference::night);
-    expect_long_numbers(reference::night);
+    expect_worked_lines(reference::night);
 }
 
 /// What starts the proved program; `None`, and a word about it, where that has not been made.
@@ -180,9 +200,9 @@ fn job(rng: &mut Rng) -> (u64, Vec<u8>) {
         _ => Shape::small(rng),
     };
     let whole = generate::problem(rng, shape).bytes();
-    let short = Facts::of(&whole).most_places() <= 5_040;
+    let short = Facts::of(&whole, last_node(&whole)).most_places() <= 5_040;
     let (problem, refused) = match rng.below(24) {
-        number @ 1..=8 => (refuse::edit(rng, number as u8, &whole).0, true),
+        i @ 1..=8 => (refuse::edit(rng, refuse::EDITS[i - 1], &whole).0, true),
         9 => (refuse::many_functions(rng), true),
         10 => (refuse::many_predicates(rng), true),
         11 => (refuse::many_places(rng), true),
@@ -203,7 +223,7 @@ fn sample_by_the_program() {
         let night = |input: &[u8]| run(&starter, input);
         assert_eq!(text(&night(samples::sample_night().bytes())), SAMPLE);
         expect_cut_sample(night);
-        expect_long_numbers(night);
+        expect_worked_lines(night);
         expect_same(&starter, samples::feedback_tap().bytes());
     }
 }

@@ -1,4 +1,4 @@
-//! The refusals in the order of document 01, and the lengths of the lent buffers, for the proved
+//! The refusals in the order of documents 01 and 02, and the lengths of the lent buffers, for the proved
 //! library and for the reference alike.
 
 mod compared;
@@ -6,77 +6,90 @@ mod made;
 
 use compared::both::{falsified, refused, stopped, BOTH, FILL};
 use compared::notice::notice;
-use eqp::problem::Problem;
+use eqp::problem::{last_node, Problem};
 use eqp::samples::{row, variables};
 use eqp::{host, Answer, ANSWER_LEN, WITNESS_LEN, WORK_LEN};
 
-/// What both sides answer to buffers of these lengths; a refusal before 13 writes nothing.
+/// What both sides answer for the last node and buffers of these lengths.
 fn expect(problem: &[u8], work_len: usize, witness_len: usize, wanted: Answer) {
+    expect_at(last_node(problem), problem, work_len, witness_len, wanted);
+}
+
+/// What both sides answer for a root; all refusals but 13 write nothing.
+fn expect_at(root: usize, problem: &[u8], work_len: usize, witness_len: usize, wanted: Answer) {
     for (name, decide) in BOTH {
         let (mut work, mut witness) = (vec![FILL; work_len], vec![FILL; witness_len]);
-        let answer = decide(9, problem, &mut work, &mut witness);
+        let answer = decide(9, root, problem, &mut work, &mut witness);
         assert_eq!(answer, wanted, "{name}");
-        if matches!(answer, Answer::Refused { number, .. } if number < 13) {
+        if matches!(answer, Answer::Refused { number, .. } if number != 13) {
             let mut all = work.iter().chain(&witness);
             assert!(all.all(|&byte| byte == FILL), "{name}");
         }
     }
 }
 
-/// A problem that breaks 8, 9, 10 and 13: x1 to x20 joined, 5 more functions, 17 predicates, and
-/// a term asked. The edits leave out the term, a function, a predicate, and an equation.
-fn breaking(ask_term: bool, functions: usize, predicates: usize, joined: usize) -> Vec<u8> {
+/// A problem whose last node breaks 9, 10 and 13: x1 to x20 joined, 5 more functions, each equal
+/// to itself, and 17 predicates. The edits leave out a function, a predicate, and an equation.
+fn breaking(functions: usize, predicates: usize, joined: usize) -> Vec<u8> {
     let mut p = Problem::new();
     let x = variables(&mut p, "x", functions);
     let q = p.predicate("q", 1);
-    for pair in x[..joined].windows(2) {
-        p.equal(pair[0], pair[1]);
+    let mut root = p.no();
+    let alone = x[joined..].iter().map(|&x| (x, x));
+    let pairs = x[..joined].windows(2).map(|pair| (pair[0], pair[1]));
+    for (left, right) in pairs.chain(alone) {
+        let equation = p.equal(left, right);
+        root = p.or(root, equation);
     }
     for &x in &x[..predicates] {
-        p.test(q, &[x]);
-    }
-    if ask_term {
-        let (c, d) = (x[0], x[1]);
-        let condition = p.equal(c, d);
-        p.choose(condition, c, d);
+        let test = p.test(q, &[x]);
+        root = p.or(root, test);
     }
     p.bytes()
 }
 
-/// Everything is wrong at first; each step mends what the one before was refused for.
+/// Everything is wrong at first, the root too; each step mends what the one before was refused
+/// for.
 #[test]
 fn order() {
-    let mut bytes = breaking(true, 25, 17, 20);
+    let expect_before_16 = |problem: &[u8], wanted| {
+        for root in [0, last_node(problem), 1 << 32, usize::MAX] {
+            expect_at(root, problem, 0, 0, wanted);
+        }
+    };
+    let mut bytes = breaking(25, 17, 20);
     let node = 8 + usize::from(bytes[5]) + 8;
     let good = bytes.clone();
     bytes[..8].copy_from_slice(b"EQX\x01\x01\x21\x00\x00");
     bytes[8] = 4;
     bytes[node + 2] = 1;
     let at = |number, place| Answer::Refused { number, place };
-    expect(&bytes[..7], 0, 0, refused(1));
-    expect(&bytes, 0, 0, refused(2));
+    expect_before_16(&bytes[..7], refused(1));
+    expect_before_16(&bytes, refused(2));
     bytes[2] = b'P';
-    expect(&bytes, 0, 0, refused(3));
+    expect_before_16(&bytes, refused(3));
     bytes[4] = 0;
-    expect(&bytes, 0, 0, refused(4));
+    expect_before_16(&bytes, refused(4));
     bytes[5] = 32;
-    expect(&bytes, 0, 0, refused(4));
+    expect_before_16(&bytes, refused(4));
     bytes[6] = 1;
-    expect(&bytes, 0, 0, refused(5));
+    expect_before_16(&bytes, refused(5));
     bytes[5..8].copy_from_slice(&good[5..8]);
-    expect(&bytes, 0, 0, at(6, 0));
+    expect_before_16(&bytes, at(6, 0));
     bytes[8] = 0;
-    expect(&bytes, 0, 0, at(7, 1));
+    expect_before_16(&bytes, at(7, 1));
     bytes[node + 2] = 0;
     assert_eq!(bytes, good);
-    expect(&bytes, 0, 0, refused(8));
-    expect(&breaking(false, 25, 17, 20), 0, 0, refused(9));
-    expect(&breaking(false, 24, 17, 20), 0, 0, refused(10));
-    let last = breaking(false, 24, 16, 20);
+    for root in [0, 24, last_node(&bytes) + 1, 1 << 32, usize::MAX] {
+        expect_at(root, &bytes, 0, 0, refused(16));
+    }
+    expect(&bytes, 0, 0, refused(9));
+    expect(&breaking(24, 17, 20), 0, 0, refused(10));
+    let last = breaking(24, 16, 20);
     expect(&last, WORK_LEN - 1, 0, refused(11));
     expect(&last, WORK_LEN, WITNESS_LEN - 1, refused(12));
     expect(&last, WORK_LEN, WITNESS_LEN, refused(13));
-    let taken = breaking(false, 24, 0, 19);
+    let taken = breaking(24, 0, 19);
     let answer = stopped(9, 121_645_100_408_832_000);
     expect(&taken, WORK_LEN, WITNESS_LEN, answer);
 }
@@ -117,7 +130,7 @@ fn answer_buffers() {
     for length in [0, 1, 31, 32, 33, 40, 255, 256, 65_536] {
         let (mut work, mut witness) = ([FILL; WORK_LEN], [FILL; WITNESS_LEN]);
         let mut answer = vec![FILL; length];
-        let returned = host::raw_decide(9, &five, &mut work, &mut witness, &mut answer);
+        let returned = host::raw_decide(9, 7, &five, &mut work, &mut witness, &mut answer);
         let written = if length < ANSWER_LEN { 0 } else { ANSWER_LEN };
         assert_eq!(returned, u32::from(written > 0), "{length}");
         assert_eq!(answer[..written], wanted[..written], "{length}");
@@ -140,15 +153,15 @@ fn lengths_over_32_bits() {
     for (name, decide) in BOTH {
         let (mut work, mut witness) = ([0; WORK_LEN], [0; WITNESS_LEN]);
         let wanted = falsified(2, 4, 4);
-        let answer = decide(9, &five, &mut long[..length], &mut witness);
+        let answer = decide(9, 7, &five, &mut long[..length], &mut witness);
         assert_eq!(answer, wanted, "{name}");
-        let answer = decide(9, &five, &mut work, &mut long[..length]);
+        let answer = decide(9, 7, &five, &mut work, &mut long[..length]);
         assert_eq!(answer, wanted, "{name}");
         long[..five.len()].copy_from_slice(&five);
-        let answer = decide(9, &long, &mut work, &mut witness);
+        let answer = decide(9, 7, &long, &mut work, &mut witness);
         assert_eq!(answer, refused(5), "{name}");
     }
     let (mut work, mut witness) = ([0; WORK_LEN], [0; WITNESS_LEN]);
-    let returned = host::raw_decide(9, &five, &mut work, &mut witness, &mut long[..length]);
+    let returned = host::raw_decide(9, 7, &five, &mut work, &mut witness, &mut long[..length]);
     assert_eq!(returned, 1);
 }

@@ -11,7 +11,7 @@ use compared::both::{
     call, expect, expect_table, expect_witness, falsified, refused, stopped, valid,
 };
 use compared::both::{Call, BOTH, FILL};
-use eqp::problem::{Formula, Problem, Term};
+use eqp::problem::{last_node, Formula, Problem, Term};
 use eqp::samples::{self, row, variables};
 use eqp::{host, workloads, Answer, WITNESS_LEN, WORK_LEN};
 use made::budgets::WIDE;
@@ -226,27 +226,34 @@ fn table_of_refusal_thirteen() {
     expect_table(&joined(20), 7, &wanted);
 }
 
-/// 24 variables that no equation joins have one place, and 25 are too many.
+/// 24 variables that no equation joins have one place, and 25 are too many. Each equals itself, so
+/// that the root reaches it.
 #[test]
 fn many_functions() {
     let apart = |count| {
         let mut p = Problem::new();
-        variables(&mut p, "x", count);
-        p.yes();
+        let x = variables(&mut p, "x", count);
+        let mut root = p.no();
+        for x in x {
+            let equation = p.equal(x, x);
+            root = p.or(root, equation);
+        }
         p
     };
     expect(&apart(24), u64::MAX, valid(1));
     expect(&apart(25), u64::MAX, refused(9));
 }
 
-/// 16 truth variables have 65,536 places, the last of them false at the first; 17 are too many.
+/// 16 truth variables have 65,536 places, and all are false at the first; 17 are too many.
 #[test]
 fn many_predicates() {
     let tests = |count| {
         let mut p = Problem::new();
+        let mut root = p.no();
         for i in 0..count {
             let q = p.predicate(&format!("q{i}"), 0);
-            p.test(q, &[]);
+            let test = p.test(q, &[]);
+            root = p.or(root, test);
         }
         p
     };
@@ -256,6 +263,9 @@ fn many_predicates() {
 }
 
 /// The largest table, 2,494 nodes: its 24 variables are joined, so that the product is refused.
+/// The root, a chain of disjunctions, reaches all 256 problem nodes. The 2,632 of document 01, for
+/// which the work buffer has room, would take 24 applications of one function with arguments, but
+/// the first term of a problem has none.
 #[test]
 fn largest_table() {
     for (name, decide) in BOTH {
@@ -276,7 +286,7 @@ fn small_stack() {
     let decide_all = move || {
         let (mut work, mut witness) = (vec![0; WORK_LEN], vec![0; WITNESS_LEN]);
         for problem in &problems {
-            host::decide(1_000, problem, &mut work, &mut witness);
+            host::decide(1_000, last_node(problem), problem, &mut work, &mut witness);
         }
     };
     let thread = thread::Builder::new().stack_size(128 << 10);

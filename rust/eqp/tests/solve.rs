@@ -9,6 +9,7 @@ use std::fs;
 use std::path::{Path, PathBuf};
 use std::process::{self, Command};
 
+use eqp::problem::last_node;
 use eqp::{reference, Answer, Reading, PROBLEM_LEN, WITNESS_LEN, WORK_LEN};
 use made::rng::Rng;
 use made::text;
@@ -114,14 +115,15 @@ fn wanted(text: &[u8]) -> (usize, String) {
         Reading::Refused { number, place } => return (0, error(text, number, place)),
     };
     let (mut work, mut witness) = ([0; WORK_LEN], [0; WITNESS_LEN]);
-    match reference::decide(BUDGET, &problem[..length], &mut work, &mut witness) {
+    let problem = &problem[..length];
+    match reference::decide(BUDGET, last_node(problem), problem, &mut work, &mut witness) {
         Answer::Refused { number, .. } => (0, error(text, number, 0)),
         Answer::Valid { .. } => (1, String::from("unsat\n")),
         Answer::Stopped { tried, product } => {
             (2, format!("unknown\n; tried {tried} of {product}\n"))
         }
         Answer::Falsified { witness_len, .. } => {
-            let tables = tables(text, &problem, &witness[..witness_len]);
+            let tables = tables(text, problem, &witness[..witness_len]);
             (3, format!("sat\n{tables}"))
         }
     }

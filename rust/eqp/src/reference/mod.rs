@@ -1,9 +1,10 @@
-//! A second implementation of document 01, written from the paper and from nothing else.
+//! A second implementation of document 01, written from the paper and from nothing else, and of
+//! document 02's requests: a call names its root (E2).
 //!
 //! The modules follow its sections: `check` the problem bytes and the refusals, `eliminate` the
 //! function-free table, `ranges` the components and the product, `walk` the places in order,
-//! `witness` the rows of a falsified answer, and `night` the night run. `text` is document 02's
-//! jobs in solver text.
+//! `witness` the rows of a falsified answer, and `night` the night run. `text` is the jobs in
+//! solver text (E1).
 
 mod check;
 mod eliminate;
@@ -52,9 +53,16 @@ impl Refusal {
     }
 }
 
-/// Decides one problem, with the effects on the buffers that document 01 fixes.
-pub fn decide(budget: u64, problem: &[u8], work: &mut [u8], witness: &mut [u8]) -> Answer {
-    match try_decide(budget, problem, work, witness) {
+/// Decides the formula at a problem's root, with the effects on the buffers that document 01
+/// fixes.
+pub fn decide(
+    budget: u64,
+    root: usize,
+    problem: &[u8],
+    work: &mut [u8],
+    witness: &mut [u8],
+) -> Answer {
+    match try_decide(budget, root, problem, work, witness) {
         Ok(answer) => answer,
         Err(Refusal { number, place }) => Answer::Refused { number, place },
     }
@@ -62,11 +70,12 @@ pub fn decide(budget: u64, problem: &[u8], work: &mut [u8], witness: &mut [u8]) 
 
 fn try_decide(
     budget: u64,
+    root: usize,
     problem: &[u8],
     work: &mut [u8],
     witness: &mut [u8],
 ) -> Result<Answer, Refusal> {
-    let problem = check(problem)?;
+    let problem = check(problem, root)?;
     if work.len() < WORK_LEN {
         return Err(Refusal::new(11));
     }

@@ -3,9 +3,10 @@
 use std::io::Write;
 
 use super::decide;
+use crate::problem::last_node;
 use crate::{Answer, WITNESS_LEN, WORK_LEN};
 
-/// The lines that the night run prints for an input.
+/// The lines that the night run prints for an input. Every job asks its last node.
 pub fn night(input: &[u8]) -> Vec<u8> {
     let mut lines = b"EQP NIGHT 1\n".to_vec();
     let (mut work, mut witness) = (vec![0; WORK_LEN], vec![0; WITNESS_LEN]);
@@ -14,7 +15,8 @@ pub fn night(input: &[u8]) -> Vec<u8> {
     while let Some((budget, problem, after)) = next_job(rest) {
         count += 1;
         rest = after;
-        let answer = decide(budget, problem, &mut work, &mut witness);
+        let root = last_node(problem);
+        let answer = decide(budget, root, problem, &mut work, &mut witness);
         write_line(&mut lines, count, &answer);
     }
     let last = if rest.is_empty() { "END" } else { "CUT" };

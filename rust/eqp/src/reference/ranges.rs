@@ -100,9 +100,9 @@ mod tests {
     use crate::problem::Problem;
     use crate::samples;
 
-    fn ranges(problem: &Problem) -> (Vec<u8>, u128) {
+    fn ranges(problem: &Problem, root: usize) -> (Vec<u8>, u128) {
         let bytes = problem.bytes();
-        let checked = check(&bytes).expect("accepted");
+        let checked = check(&bytes, root).expect("accepted");
         let ranges = Ranges::new(&checked, &eliminate(&checked));
         (ranges.tops, ranges.product)
     }
@@ -110,8 +110,19 @@ mod tests {
     /// Row 5's tops, as docs/FORMAT.md works them out, and row 9's.
     #[test]
     fn rows() {
-        assert_eq!(ranges(&samples::row(5)), (vec![1, 2, 1, 2], 4));
-        assert_eq!(ranges(&samples::row(9)), (vec![1, 2], 4));
+        assert_eq!(ranges(&samples::row(5), 7), (vec![1, 2, 1, 2], 4));
+        assert_eq!(ranges(&samples::row(9), 4), (vec![1, 2], 4));
+    }
+
+    /// What a root does not reach links nothing: in row 5 x and y alone, and the p of row 9. The
+    /// two departments' tops are document 02's.
+    #[test]
+    fn roots() {
+        assert_eq!(ranges(&samples::row(5), 6), (vec![1, 2], 2));
+        assert_eq!(ranges(&samples::row(9), 0), (vec![], 2));
+        let two = samples::two_departments();
+        assert_eq!(ranges(&two, 2), (vec![1, 2], 2));
+        assert_eq!(ranges(&two, 6), (vec![1, 2, 1, 2], 4));
     }
 
     /// Components that are not runs of numbers: x0 = x3 and x1 = x2 give the ranks 1, 1, 2, 2.
@@ -120,11 +131,13 @@ mod tests {
         let mut p = Problem::new();
         let x: Vec<_> = (0..4).map(|i| p.function(&format!("x{i}"), 0)).collect();
         let x: Vec<_> = x.into_iter().map(|x| p.apply(x, &[])).collect();
-        p.equal(x[3], x[0]);
-        p.equal(x[1], x[2]);
-        assert_eq!(ranges(&p), (vec![1, 1, 2, 2], 4));
-        p.equal(x[3], x[1]);
-        assert_eq!(ranges(&p), (vec![1, 2, 3, 4], 24));
+        let (left, right) = (p.equal(x[3], x[0]), p.equal(x[1], x[2]));
+        let apart = p.or(left, right);
+        assert_eq!(ranges(&p, apart.node()), (vec![1, 1, 2, 2], 4));
+        let link = p.equal(x[3], x[1]);
+        assert_eq!(ranges(&p, apart.node()), (vec![1, 1, 2, 2], 4));
+        let joined = p.or(apart, link);
+        assert_eq!(ranges(&p, joined.node()), (vec![1, 2, 3, 4], 24));
     }
 
     /// A choice has the leaves of its second and third operands, not of its first, and an equation
@@ -136,16 +149,16 @@ mod tests {
         let [u, v, x, y, z] = [u, v, x, y, z].map(|variable| p.apply(variable, &[]));
         let condition = p.equal(u, v);
         let choice = p.choose(condition, x, y);
-        p.equal(choice, choice);
-        assert_eq!(ranges(&p), (vec![1, 2, 1, 2, 1], 4));
-        p.equal(choice, z);
-        assert_eq!(ranges(&p), (vec![1, 2, 1, 2, 3], 12));
+        let itself = p.equal(choice, choice);
+        assert_eq!(ranges(&p, itself.node()), (vec![1, 2, 1, 2], 4));
+        let other = p.equal(choice, z);
+        assert_eq!(ranges(&p, other.node()), (vec![1, 2, 1, 2, 3], 12));
     }
 
     /// Truth variables double the product.
     #[test]
     fn truth_variables() {
         let three = samples::three_tests();
-        assert_eq!(ranges(&three), (vec![1, 2], 16));
+        assert_eq!(ranges(&three, 6), (vec![1, 2], 16));
     }
 }

@@ -146,11 +146,12 @@ mod tests {
         let mut p = Problem::new();
         let x = variables(&mut p, "x", 3);
         let q = p.predicate("q", 0);
-        p.equal(x[0], x[1]);
-        p.equal(x[1], x[2]);
-        p.test(q, &[]);
+        let (left, right) = (p.equal(x[0], x[1]), p.equal(x[1], x[2]));
+        let test = p.test(q, &[]);
+        let either = p.or(left, right);
+        let root = p.or(either, test);
         let bytes = p.bytes();
-        let checked = check(&bytes).expect("accepted");
+        let checked = check(&bytes, root.node()).expect("accepted");
         let table = eliminate(&checked);
         let mut walk = Walk::new(&table, &Ranges::new(&checked, &table));
         let mut places = Vec::new();

@@ -1,9 +1,9 @@
 //! The proved library and the reference, called alike.
 
-use eqp::problem::Problem;
+use eqp::problem::{last_node, Problem};
 use eqp::{host, reference, Answer, WITNESS_LEN, WORK_LEN};
 
-pub type Decide = fn(u64, &[u8], &mut [u8], &mut [u8]) -> Answer;
+pub type Decide = fn(u64, usize, &[u8], &mut [u8], &mut [u8]) -> Answer;
 
 pub const BOTH: [(&str, Decide); 2] = [("library", host::decide), ("reference", reference::decide)];
 
@@ -11,16 +11,23 @@ pub const BOTH: [(&str, Decide); 2] = [("library", host::decide), ("reference", 
 pub const FILL: u8 = 0xaa;
 
 /// A call with buffers that are longer than they need be.
+#[derive(Debug, PartialEq, Eq)]
 pub struct Call {
     pub answer: Answer,
     pub work: Vec<u8>,
     pub witness: Vec<u8>,
 }
 
+/// A call that names the last node, as the night run does.
 pub fn call(decide: Decide, budget: u64, problem: &[u8]) -> Call {
+    call_at(decide, budget, last_node(problem), problem)
+}
+
+/// A call that names this root.
+pub fn call_at(decide: Decide, budget: u64, root: usize, problem: &[u8]) -> Call {
     let mut work = vec![FILL; WORK_LEN + 8];
     let mut witness = vec![FILL; WITNESS_LEN + 8];
-    let answer = decide(budget, problem, &mut work, &mut witness);
+    let answer = decide(budget, root, problem, &mut work, &mut witness);
     Call {
         answer,
         work,
@@ -28,7 +35,7 @@ pub fn call(decide: Decide, budget: u64, problem: &[u8]) -> Call {
     }
 }
 
-/// Both sides must give this answer.
+/// Both sides must give this answer for the last node.
 pub fn expect(problem: &Problem, budget: u64, wanted: Answer) {
     for (name, decide) in BOTH {
         let Call { answer, .. } = call(decide, budget, &problem.bytes());

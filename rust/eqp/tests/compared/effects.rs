@@ -6,14 +6,14 @@ use super::lend::Done;
 use super::replay;
 
 /// Holds a call against document 01: the work buffer changes where the table goes and nowhere
-/// else, the witness buffer where the witness goes; a witness makes the formula false, and a valid
-/// formula is true wherever it is tried.
-pub fn expect_effects(problem: &[u8], done: &Done) {
+/// else, the witness buffer where the witness goes; a witness makes the root false, and a valid
+/// root is true wherever it is tried.
+pub fn expect_effects(problem: &[u8], root: usize, done: &Done) {
     let (work, witness) = (done.work, done.witness);
     let table = match done.answer {
         None => 0,
-        Some(Answer::Refused { number, .. }) if number < 13 => 0,
-        Some(_) => 8 * replay::table_nodes(problem),
+        Some(Answer::Refused { number, .. }) if number != 13 => 0,
+        Some(_) => 8 * replay::table_nodes(problem, root),
     };
     assert_eq!(work.0[table..], work.1[table..], "the work buffer's rest");
     let mut ops = work.1[..table].chunks(8).map(|node| node[0]);
@@ -26,12 +26,12 @@ pub fn expect_effects(problem: &[u8], done: &Done) {
     assert_eq!(rest.0, rest.1, "the witness buffer's rest");
     match done.answer {
         Some(Answer::Falsified { .. }) => {
-            let by_witness = replay::is_true_by(problem, &witness.1[..written]);
+            let by_witness = replay::is_true_by(problem, root, &witness.1[..written]);
             assert!(!by_witness, "the witness makes the formula true");
         }
         Some(Answer::Valid { .. }) => {
-            let mut seeds = 1..=4;
-            let always = seeds.all(|seed| replay::is_true_at_random(problem, seed, 1 + seed));
+            let is_true = |seed| replay::is_true_at_random(problem, root, seed, 1 + seed);
+            let always = (1..=4).all(is_true);
             assert!(always, "a valid formula is false somewhere");
         }
         _ => {}

@@ -125,18 +125,22 @@ impl Buffers {
 
     /// The reference's answer, written as the library writes its own; `None` where the answer
     /// buffer is too short.
-    fn ask(&mut self, budget: u64, reference: Decide) -> Option<Answer> {
+    fn ask(&mut self, (budget, root): Asked, reference: Decide) -> Option<Answer> {
         let [problem, work, witness, answer] = &mut self.0;
-        let decided = (answer.length >= ANSWER_LEN)
-            .then(|| reference(budget, problem.slice(), work.slice(), witness.slice()))?;
+        if answer.length < ANSWER_LEN {
+            return None;
+        }
+        let (work, witness) = (work.slice(), witness.slice());
+        let decided = reference(budget, root, problem.slice(), work, witness);
         answer.slice()[..ANSWER_LEN].copy_from_slice(&host::encode(&decided));
         Some(decided)
     }
 
-    fn lend(&mut self, budget: u64, library: Raw) -> u32 {
+    fn lend(&mut self, (budget, root): Asked, library: Raw) -> u32 {
         let [problem, work, witness, answer] = &mut self.0;
         library(
             budget,
+            root,
             problem.slice(),
             work.slice(),
             witness.slice(),
@@ -156,7 +160,10 @@ pub struct Done<'a> {
 }
 
 /// The library's own call, or what a test puts in its place.
-pub type Raw = fn(u64, &[u8], &mut [u8], &mut [u8], &mut [u8]) -> u32;
+pub type Raw = fn(u64, usize, &[u8], &mut [u8], &mut [u8], &mut [u8]) -> u32;
+
+/// The numbers of a call: the budget and the root.
+pub type Asked = (u64, usize);
 
 /// Both sides, and the noise that their buffers start from.
 pub struct Lender {
@@ -185,17 +192,17 @@ impl Lender {
     pub fn call(
         &mut self,
         rng: &mut Rng,
-        budget: u64,
+        asked: Asked,
         problem: &[u8],
         lengths: Lengths,
     ) -> Done<'_> {
         let at = rng.below(1_000);
         self.ours.refill(&self.noise, at, problem, lengths);
         self.theirs.refill(&self.noise, at, problem, lengths);
-        let answer = self.ours.ask(budget, self.reference);
-        let returned = self.theirs.lend(budget, self.library);
+        let answer = self.ours.ask(asked, self.reference);
+        let returned = self.theirs.lend(asked, self.library);
         if returned != u32::from(answer.is_some()) || self.ours != self.theirs {
-            self.differ(budget, lengths, answer, returned);
+            self.differ(asked, lengths, answer, returned);
         }
         let [_, work, witness, _] = &mut self.ours.0;
         let done = Done {
@@ -203,11 +210,17 @@ impl Lender {
             work: (work.before(&self.noise, at), work.slice()),
             witness: (witness.before(&self.noise, at), witness.slice()),
         };
-        expect_effects(problem, &done);
+        expect_effects(problem, asked.1, &done);
         done
     }
 
-    fn differ(&mut self, budget: u64, lengths: Lengths, answer: Option<Answer>, returned: u32) {
+    fn differ(
+        &mut self,
+        (budget, root): Asked,
+        lengths: Lengths,
+        answer: Option<Answer>,
+        returned: u32,
+    ) {
         let names = ["problem", "work", "witness", "answer"];
         for (i, name) in names.into_iter().enumerate() {
             self.ours.0[i].tell_difference(&self.theirs.0[i], name);
@@ -215,8 +228,8 @@ impl Lender {
         let theirs = self.theirs.0[3].slice().to_vec();
         let problem = self.ours.0[0].slice();
         panic!(
-            "budget {budget}, {lengths:?}, problem {problem:?}: the reference answers {answer:?}, \
-             the library returns {returned} with {theirs:?}"
+            "budget {budget}, root {root}, {lengths:?}, problem {problem:?}: \
+             the reference answers {answer:?}, the library returns {returned} with {theirs:?}"
         );
     }
 }

@@ -1,10 +1,11 @@
 //! Readings of both sides with the same bytes in and around every buffer.
 
+use eqp::problem::last_node;
 use eqp::{host, reference, Reading, ANSWER_LEN, PROBLEM_LEN};
 
 use super::lend::{answer_length, around, noise, Lent};
 use super::readers::Read;
-use super::replay::nodes;
+use super::replay::{nodes, reached};
 use crate::made::rng::Rng;
 
 /// The lengths of the lent buffers.
@@ -115,7 +116,7 @@ impl TextLender {
 }
 
 /// The problem buffer changes where the problem goes and nowhere else. The problem passes the
-/// check, ends with a negation, and has no node twice.
+/// check, ends with a negation that reaches all nodes, and has no node twice.
 pub fn expect_problem(reading: Option<Reading>, before: &[u8], after: &[u8]) {
     let length = match reading {
         Some(Reading::Read { length }) => length,
@@ -124,7 +125,10 @@ pub fn expect_problem(reading: Option<Reading>, before: &[u8], after: &[u8]) {
     assert_eq!(before[length..], after[length..], "the buffer's rest");
     if length > 0 {
         let problem = &after[..length];
-        reference::check(problem).expect("a problem that is read passes the check");
+        let root = last_node(problem);
+        reference::check(problem, root).expect("a problem that is read passes the check");
+        let all_reached = reached(problem, root).into_iter().all(|reached| reached);
+        assert!(all_reached, "a node is not reached");
         let mut all: Vec<_> = nodes(problem).collect();
         let last = all.last().map(|node| node.0);
         assert_eq!(last, Some(3), "the negation comes last");

@@ -1,4 +1,4 @@
-//! The meaning of a problem's formula, from its bytes and by document 01's section on the logic:
+//! The meaning of a problem's root, from its bytes and by document 01's section on the logic:
 //! nothing here knows of elimination, ranges or places.
 
 /// The nodes of a well-formed problem: op, symbol and operands.
@@ -15,9 +15,48 @@ pub fn arity(problem: &[u8], symbol: u8) -> usize {
     usize::from(problem[8 + usize::from(symbol)] % 16)
 }
 
-/// Whether the formula of a well-formed problem is true, where `meaning` gives the value of a
-/// symbol for its arguments; true is 1 and false 0.
-pub fn is_true(problem: &[u8], mut meaning: impl FnMut(u8, &[u64]) -> u64) -> bool {
+/// What a node's operands must be: terms or not, as many as it uses.
+pub fn takes(problem: &[u8], op: u8, symbol: u8) -> &'static [bool] {
+    match op {
+        0 | 6 => &[true; 3][..arity(problem, symbol)],
+        1 => &[false, true, true],
+        2 => &[true, true],
+        3 => &[false],
+        4 | 5 => &[false, false],
+        9 => &[false, false, false],
+        _ => &[],
+    }
+}
+
+/// Which nodes of a well-formed problem others take.
+pub fn taken(problem: &[u8]) -> Vec<bool> {
+    let all: Vec<_> = nodes(problem).collect();
+    let mut taken = vec![false; all.len()];
+    for (op, symbol, operands) in all {
+        let used = takes(problem, op, symbol).len();
+        operands[..used].iter().for_each(|&at| taken[at] = true);
+    }
+    taken
+}
+
+/// Which nodes of a well-formed problem a root reaches. Operands are earlier, so that one way back
+/// over the nodes finds them all.
+pub fn reached(problem: &[u8], root: usize) -> Vec<bool> {
+    let all: Vec<_> = nodes(problem).collect();
+    let mut reached = vec![false; all.len()];
+    reached[root] = true;
+    for (i, (op, symbol, operands)) in all.into_iter().enumerate().rev() {
+        if reached[i] {
+            let used = takes(problem, op, symbol).len();
+            operands[..used].iter().for_each(|&at| reached[at] = true);
+        }
+    }
+    reached
+}
+
+/// Whether a root of a well-formed problem is true, where `meaning` gives the value of a symbol
+/// for its arguments; true is 1 and false 0.
+pub fn is_true(problem: &[u8], root: usize, mut meaning: impl FnMut(u8, &[u64]) -> u64) -> bool {
     let mut values: Vec<u64> = Vec::new();
     for (op, symbol, [a, b, c]) in nodes(problem) {
         let value = |at: usize| values[at];
@@ -39,11 +78,11 @@ pub fn is_true(problem: &[u8], mut meaning: impl FnMut(u8, &[u64]) -> u64) -> bo
         };
         values.push(value);
     }
-    values.last() == Some(&1)
+    values[root] == 1
 }
 
-/// Whether the formula is true by a witness's tables; what no row lists is 0 or false.
-pub fn is_true_by(problem: &[u8], witness: &[u8]) -> bool {
+/// Whether the root is true by a witness's tables; what no row lists is 0 or false.
+pub fn is_true_by(problem: &[u8], root: usize, witness: &[u8]) -> bool {
     assert_eq!(witness[..5], *b"EQW\x01\x00", "the witness's start");
     let rows: Vec<&[u8]> = witness[6..].chunks(5).collect();
     assert_eq!(rows.len(), usize::from(witness[5]), "the count of rows");
@@ -54,7 +93,7 @@ pub fn is_true_by(problem: &[u8], witness: &[u8]) -> bool {
         let mut unused = row[1 + arity(problem, row[0])..4].iter();
         assert!(unused.all(|&value| value == 0), "an unused argument");
     }
-    is_true(problem, |symbol, arguments| {
+    is_true(problem, root, |symbol, arguments| {
         let listed = |row: &&&[u8]| {
             let values = row[1..].iter().map(|&value| u64::from(value));
             row[0] == symbol && values.take(arguments.len()).eq(arguments.iter().copied())
@@ -63,10 +102,10 @@ pub fn is_true_by(problem: &[u8], witness: &[u8]) -> bool {
     })
 }
 
-/// Whether the formula is true where every symbol means some function that the seed chooses, with
+/// Whether the root is true where every symbol means some function that the seed chooses, with
 /// values below `size`.
-pub fn is_true_at_random(problem: &[u8], seed: u64, size: u64) -> bool {
-    is_true(problem, |symbol, arguments| {
+pub fn is_true_at_random(problem: &[u8], root: usize, seed: u64, size: u64) -> bool {
+    is_true(problem, root, |symbol, arguments| {
         let mut mixed = seed ^ u64::from(symbol) << 32;
         for argument in arguments {
             mixed = (mixed ^ argument).wrapping_mul(0x9e37_79b9_7f4a_7c15);
@@ -78,12 +117,14 @@ pub fn is_true_at_random(problem: &[u8], seed: u64, size: u64) -> bool {
     })
 }
 
-/// How many nodes the function-free table has: one for each node that is no repeat, and for two
-/// distinct applications of a symbol two for each argument.
-pub fn table_nodes(problem: &[u8]) -> usize {
+/// How many nodes the function-free table of a root has: one for each node that it reaches and
+/// that is no repeat among those, and for two distinct applications of a symbol two for each
+/// argument.
+pub fn table_nodes(problem: &[u8], root: usize) -> usize {
     let mut distinct = Vec::new();
     let mut count = 0;
-    for node in nodes(problem) {
+    let reached = reached(problem, root);
+    for (node, _) in nodes(problem).zip(reached).filter(|(_, reached)| *reached) {
         let (op, symbol, _) = node;
         let is_application = op == 0 || op == 6;
         if is_application && distinct.contains(&node) {

@@ -7,16 +7,17 @@ use std::thread;
 
 use eqp::Answer;
 
-use super::both::{call, BOTH};
+use super::both::{call_at, BOTH};
 
-/// What a solver must say, as both the library and the reference decide.
-pub fn verdict(problem: &[u8]) -> &'static str {
-    let [library, reference] = BOTH.map(|(_, decide)| call(decide, u64::MAX, problem).answer);
+/// What a solver must say of a root, as both the library and the reference decide.
+pub fn verdict(problem: &[u8], root: usize) -> &'static str {
+    let decide = |(_, decide)| call_at(decide, u64::MAX, root, problem).answer;
+    let [library, reference] = BOTH.map(decide);
     assert_eq!(library, reference);
     match library {
         Answer::Valid { .. } => "unsat",
         Answer::Falsified { .. } => "sat",
-        other => panic!("{other:?} for {problem:?}"),
+        other => panic!("{other:?} for root {root} of {problem:?}"),
     }
 }
 

@@ -1,16 +1,20 @@
 //! What is counted of the calls that compare the two sides.
 
+use eqp::problem::last_node;
 use eqp::{Answer, ANSWER_LEN, WITNESS_LEN, WORK_LEN};
 
 use super::facts::{only_flaw, Facts, Flaw};
-use crate::compared::lend::Lengths;
+use crate::compared::lend::{Asked, Lengths};
 
 /// A call that both sides answered alike.
 pub struct Call {
     pub budget: u64,
+    pub root: usize,
+    /// The number of the last node, as the header counts them.
+    pub last: usize,
     pub lengths: Lengths,
     pub answer: Option<Answer>,
-    /// The facts of the problem, where it was accepted.
+    /// The facts of the root, where it was accepted.
     pub facts: Option<Facts>,
     /// What is wrong, where a node was refused for one thing alone.
     pub flaw: Option<Flaw>,
@@ -21,7 +25,7 @@ pub struct Call {
 
 impl Call {
     pub fn new(
-        budget: u64,
+        (budget, root): Asked,
         problem: &[u8],
         lengths: Lengths,
         answer: Option<Answer>,
@@ -29,6 +33,8 @@ impl Call {
     ) -> Self {
         let mut call = Self {
             budget,
+            root,
+            last: last_node(problem),
             lengths,
             answer,
             facts: None,
@@ -40,7 +46,7 @@ impl Call {
                 call.flaw = only_flaw(problem, place as usize);
             }
             None | Some(Answer::Refused { .. }) => {}
-            Some(_) => call.facts = Some(Facts::of(problem)),
+            Some(_) => call.facts = Some(Facts::of(problem, root)),
         }
         if let Some(Answer::Falsified { witness_len, .. }) = answer {
             call.coinciding = coinciding(problem, &witness[6..witness_len]);
@@ -54,6 +60,16 @@ impl Call {
 
     pub fn refused(&self, wanted: u8) -> bool {
         matches!(self.answer, Some(Answer::Refused { number, .. }) if number == wanted)
+    }
+
+    /// Whether a root before the last node was accepted.
+    pub fn asks_within(&self) -> bool {
+        self.facts.is_some() && self.root < self.last
+    }
+
+    /// Whether the root is no node, while its low bits would be one.
+    pub fn root_tells(&self, bits: u32) -> bool {
+        self.refused(16) && self.root > self.last && self.root % (1 << bits) <= self.last
     }
 
     pub fn valid(&self) -> Option<u64> {

@@ -1,16 +1,17 @@
-//! What a problem has in it, read from its bytes alone, so that the tests can count what came up.
+//! What a problem's root reaches, read from the bytes alone, so that the tests can count what came
+//! up.
 
-use crate::compared::replay::{arity, nodes, table_nodes};
+use crate::compared::replay::{arity, nodes, reached, table_nodes, takes};
 
 /// A node: op, symbol and operands.
 type Node = (u8, u8, [usize; 3]);
 
-/// What a well-formed problem has in it. Pairs are of functions and of predicates.
+/// What the root of a well-formed problem reaches. Pairs are of functions and of predicates.
 #[derive(Clone, Debug, Default, PartialEq, Eq)]
 pub struct Facts {
-    /// The ops of its nodes.
+    /// The ops of the nodes.
     pub ops: [bool; 10],
-    /// The arities of its applications.
+    /// The arities of the applications.
     pub arities: [[bool; 4]; 2],
     /// An application that an earlier node repeats.
     pub repeat: [bool; 2],
@@ -23,7 +24,9 @@ pub struct Facts {
     pub threefold: [bool; 2],
     /// An application that the root does not reach.
     pub unreached: [bool; 2],
-    /// The formula asked is a repeat, so that the root is not the last node of the table.
+    /// An application whose earliest equal node the root does not reach.
+    pub unreached_twin: [bool; 2],
+    /// The root is an application that an earlier node equals.
     pub root_repeats: bool,
     /// An equation has a choice for a side.
     pub equated_choice: bool,
@@ -32,6 +35,8 @@ pub struct Facts {
     pub congruence: [bool; 2],
     /// The distinct applications.
     pub distinct: [usize; 2],
+    /// The distinct applications of the whole problem, reached or not.
+    pub in_all: [usize; 2],
     /// The nodes of the function-free table.
     pub table_nodes: usize,
 }
@@ -40,25 +45,31 @@ pub struct Facts {
 const APPLICATIONS: [u8; 2] = [0, 6];
 
 impl Facts {
-    /// The facts of a well-formed problem.
-    pub fn of(problem: &[u8]) -> Self {
+    /// The facts of a root of a well-formed problem.
+    pub fn of(problem: &[u8], root: usize) -> Self {
         let all: Vec<Node> = nodes(problem).collect();
+        let reached = reached(problem, root);
         let mut facts = Self {
-            table_nodes: table_nodes(problem),
+            table_nodes: table_nodes(problem, root),
+            root_repeats: APPLICATIONS.contains(&all[root].0) && all[..root].contains(&all[root]),
             ..Self::default()
         };
-        for &(op, _, [a, b, _]) in &all {
+        let numbers = (0..all.len()).filter(|&i| reached[i]);
+        for (op, _, [a, b, _]) in numbers.map(|i| all[i]) {
             facts.ops[usize::from(op)] = true;
             facts.equated_choice |= op == 2 && (all[a].0 == 1 || all[b].0 == 1);
         }
-        facts.congruence = congruence(problem, &all);
-        let reached = reached(problem, &all);
+        facts.congruence = congruence(problem, &all, &reached);
         for (kind, op) in APPLICATIONS.into_iter().enumerate() {
-            let of_kind = |&i: &usize| all[i].0 == op;
-            let applications: Vec<usize> = (0..all.len()).filter(of_kind).collect();
+            let of_kind = (0..all.len()).filter(|&i| all[i].0 == op);
+            let (applications, others): (Vec<_>, Vec<_>) = of_kind.partition(|&i| reached[i]);
+            facts.unreached[kind] = !others.is_empty();
+            let first = |i: usize| all.iter().position(|node| *node == all[i]);
+            let is_first = |&&i: &&usize| first(i) == Some(i);
+            facts.in_all[kind] = applications.iter().chain(&others).filter(is_first).count();
             for &i in &applications {
                 facts.arities[kind][arity(problem, all[i].1)] = true;
-                facts.unreached[kind] |= !reached[i];
+                facts.unreached_twin[kind] |= first(i).map_or(false, |first| !reached[first]);
             }
             facts.compare(problem, kind, &all, &applications);
         }
@@ -73,7 +84,6 @@ impl Facts {
                 self.repeat[kind] = true;
                 let has_arguments = arity(problem, all[i].1) > 0;
                 self.far_repeat[kind] |= has_arguments && first + 1 < distinct.len();
-                self.root_repeats |= i + 1 == all.len();
                 continue;
             }
             let same = distinct.iter().filter(|&&other| all[other].1 == all[i].1);
@@ -103,11 +113,16 @@ impl Facts {
     }
 }
 
-fn congruence(problem: &[u8], all: &[Node]) -> [bool; 2] {
-    let equations = || all.iter().filter(|node| node.0 == 2);
-    let equated = |a: usize, b: usize| equations().any(|(_, _, [c, d, _])| [a, b] == [*c, *d]);
+fn congruence(problem: &[u8], all: &[Node], reached: &[bool]) -> [bool; 2] {
+    let equations = || {
+        let reached = all.iter().zip(reached).filter(|(_, reached)| **reached);
+        reached
+            .filter(|(node, _)| node.0 == 2)
+            .map(|(node, _)| node.2)
+    };
+    let equated = |a: usize, b: usize| equations().any(|[c, d, _]| [a, b] == [c, d]);
     let mut found = [false; 2];
-    for &(_, _, [left, right, _]) in equations() {
+    for [left, right, _] in equations() {
         let (left, right) = (all[left], all[right]);
         if (left.0, left.1) == (right.0, right.1) && left.0 == 0 && left.2 != right.2 {
             let arity = arity(problem, left.1);
@@ -118,36 +133,6 @@ fn congruence(problem: &[u8], all: &[Node]) -> [bool; 2] {
         }
     }
     found
-}
-
-/// Which nodes the last one reaches.
-fn reached(problem: &[u8], all: &[Node]) -> Vec<bool> {
-    let mut reached = vec![false; all.len()];
-    if let Some(last) = reached.last_mut() {
-        *last = true;
-    }
-    for i in (0..all.len()).rev().filter(|&i| i > 0) {
-        let (op, symbol, operands) = all[i];
-        if reached[i] {
-            for &operand in &operands[..takes(problem, op, symbol).len()] {
-                reached[operand] = true;
-            }
-        }
-    }
-    reached
-}
-
-/// What a node's operands must be: terms or not, as many as there are.
-fn takes(problem: &[u8], op: u8, symbol: u8) -> &'static [bool] {
-    match op {
-        0 | 6 => &[true; 3][..arity(problem, symbol)],
-        1 => &[false, true, true],
-        2 => &[true, true],
-        3 => &[false],
-        4 | 5 => &[false, false],
-        9 => &[false, false, false],
-        _ => &[],
-    }
 }
 
 /// What can be wrong with a node, and with which operand.

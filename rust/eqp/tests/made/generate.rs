@@ -3,6 +3,7 @@
 use eqp::problem::{Formula, Function, Predicate, Problem, Term};
 
 use super::rng::Rng;
+use crate::compared::replay::taken;
 
 /// How large a problem may become.
 #[derive(Clone, Copy)]
@@ -31,7 +32,7 @@ impl Shape {
     /// A shape for large tables.
     pub fn large(rng: &mut Rng) -> Self {
         Self {
-            nodes: rng.within(60, 210),
+            nodes: rng.within(60, 190),
             functions: rng.within(8, 24),
             predicates: rng.within(2, 16),
             dense: rng.once_in(3),
@@ -48,6 +49,9 @@ pub fn problem(rng: &mut Rng, shape: Shape) -> Problem {
     growing.finish();
     growing.p
 }
+
+/// From here on no more formulas are joined: a table has at most 256 nodes.
+const ENOUGH: usize = 240;
 
 /// A variable first, and as many of arity 0 as of the others.
 fn function_arities(rng: &mut Rng, shape: Shape) -> Vec<usize> {
@@ -118,8 +122,9 @@ impl<'a> Growing<'a> {
         }
     }
 
-    /// Ends with a formula: often one made of those there are, or else any, repeats too.
-    pub fn finish(&mut self) {
+    /// Ends with a formula, and gives it: often one made of those there are, or else any, repeats
+    /// too. It leaves much of the table unreached, unless all is gathered.
+    pub fn finish(&mut self) -> Formula {
         if self.formulas.is_empty() {
             self.constant();
         }
@@ -136,6 +141,38 @@ impl<'a> Growing<'a> {
                 let (left, right) = (self.formula(), self.formula());
                 self.formulas.push(self.p.or(left, right));
             }
+        }
+        if self.rng.once_in(2) {
+            self.gather();
+        }
+        self.formulas[self.formulas.len() - 1]
+    }
+
+    /// A formula that reaches most of the table: it joins, one by one, the formulas that no node
+    /// takes, and equations of the terms that no node takes.
+    fn gather(&mut self) {
+        let taken = taken(&self.p.bytes());
+        let mut all = self.formulas[self.formulas.len() - 1];
+        let formulas = self.formulas.clone().into_iter();
+        for formula in formulas.filter(|formula| !taken[formula.node()]) {
+            all = self.join(all, formula);
+        }
+        let terms = self.terms.clone().into_iter();
+        let terms: Vec<Term> = terms.filter(|term| !taken[term.node()]).collect();
+        for pair in terms.chunks(2) {
+            let equation = self.p.equal(pair[0], pair[pair.len() - 1]);
+            all = self.join(all, equation);
+        }
+        self.formulas.push(all);
+    }
+
+    /// A formula that takes both, while there is room.
+    fn join(&mut self, all: Formula, next: Formula) -> Formula {
+        match self.rng.below(4) {
+            _ if self.p.node_count() > ENOUGH => all,
+            0 => self.p.and(all, next),
+            1 | 2 => self.p.or(next, all),
+            _ => self.p.select(next, all, self.formulas[0]),
         }
     }
 

@@ -110,17 +110,23 @@ fn nodes() -> Vec<Case> {
 }
 
 /// Distinct applications of one symbol: of a variable's repeats, which have numbers of their own.
+/// The root reaches the functions by choices, under a predicate of their own: equations would join
+/// them all.
 fn applied(functions: usize, predicates: usize) -> Problem {
     let mut p = Problem::new();
     let x = p.function("x", 0);
-    let (f, q) = (p.function("f", 1), p.predicate("q", 1));
+    let (f, q, r) = (p.function("f", 1), p.predicate("q", 1), p.predicate("r", 1));
     let repeats: Vec<Term> = (0..40).map(|_| p.apply(x, &[])).collect();
+    let yes = p.yes();
+    let mut choices = repeats[0];
     for &repeat in &repeats[..functions - 1] {
-        p.apply(f, &[repeat]);
+        let application = p.apply(f, &[repeat]);
+        choices = p.choose(yes, application, choices);
     }
-    p.yes();
-    for &repeat in &repeats[..predicates] {
-        p.test(q, &[repeat]);
+    let mut root = p.test(r, &[choices]);
+    for &repeat in &repeats[..predicates - 1] {
+        let test = p.test(q, &[repeat]);
+        root = p.or(root, test);
     }
     p
 }
@@ -145,8 +151,8 @@ fn applications() -> Vec<Case> {
         (bytes, refusal.map(|number| (number, 0)))
     };
     vec![
-        case(24, 0, None),
-        case(25, 0, Some(9)),
+        case(24, 1, None),
+        case(25, 1, Some(9)),
         case(1, 16, None),
         case(1, 17, Some(10)),
         case(24, 16, None),

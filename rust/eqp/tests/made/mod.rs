@@ -8,4 +8,5 @@ pub mod generate;
 pub mod limits;
 pub mod refuse;
 pub mod rng;
+pub mod roots;
 pub mod text;

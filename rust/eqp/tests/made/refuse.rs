@@ -1,13 +1,16 @@
 //! Problems that must be refused, each with the number and place it must be refused by.
 
-use eqp::problem::Problem;
+use eqp::problem::{Formula, Problem};
 use eqp::samples::variables;
 
 use super::generate::{Growing, Shape};
 use super::rng::Rng;
 use crate::compared::replay::{arity, nodes};
 
-/// An edit of a well-formed problem that is refused by `number`, 1 to 8; and the place.
+/// The refusals that an edit is for.
+pub const EDITS: [u8; 8] = [1, 2, 3, 4, 5, 6, 7, 16];
+
+/// An edit of a well-formed problem whose last node is refused by `number`; and the place.
 pub fn edit(rng: &mut Rng, number: u8, problem: &[u8]) -> (Vec<u8>, u64) {
     let mut bytes = problem.to_vec();
     let place = match number {
@@ -27,7 +30,7 @@ pub fn edit(rng: &mut Rng, number: u8, problem: &[u8]) -> (Vec<u8>, u64) {
         5 => bad_length(rng, &mut bytes),
         6 => bad_symbols(rng, &mut bytes),
         7 => bad_node(rng, &mut bytes),
-        8 => ask_term(&mut bytes),
+        16 => ask_term(&mut bytes),
         _ => unreachable!("there is no edit for refusal {number}"),
     };
     (bytes, place as u64)
@@ -150,7 +153,8 @@ fn ask_term(bytes: &mut Vec<u8>) -> usize {
     0
 }
 
-/// A problem with too many distinct function applications, and perhaps predicate applications.
+/// A problem whose last node reaches too many distinct function applications, and perhaps
+/// predicate applications.
 pub fn many_functions(rng: &mut Rng) -> Vec<u8> {
     let mut p = Problem::new();
     let x = variables(&mut p, "x", rng.within(6, 12));
@@ -160,25 +164,32 @@ pub fn many_functions(rng: &mut Rng) -> Vec<u8> {
     for i in 0..rng.within(25, 60) - x.len() {
         terms.push(p.apply(f, &[x[i % x.len()], terms[i]]));
     }
-    for _ in 0..rng.below(40) {
-        p.test(q, &[*rng.pick(&terms)]);
+    let mut root = p.yes();
+    for pair in terms.chunks(2) {
+        let equation = p.equal(pair[0], pair[pair.len() - 1]);
+        root = p.or(root, equation);
     }
-    p.yes();
+    for _ in 0..rng.below(40) {
+        let test = p.test(q, &[*rng.pick(&terms)]);
+        root = p.or(root, test);
+    }
     p.bytes()
 }
 
-/// A problem with too many distinct predicate applications and few functions.
+/// A problem whose last node reaches too many distinct predicate applications and few functions.
 pub fn many_predicates(rng: &mut Rng) -> Vec<u8> {
     let mut p = Problem::new();
     let x = variables(&mut p, "x", rng.within(6, 12));
     let q = p.predicate("q", 2);
+    let mut root = p.no();
     for i in 0..rng.within(17, 30) {
-        p.test(q, &[x[i % 6], x[i / 6]]);
+        let test = p.test(q, &[x[i % 6], x[i / 6]]);
+        root = p.or(root, test);
     }
     p.bytes()
 }
 
-/// A problem that joins twenty variables or more, which is over 10^18 places.
+/// A problem whose last node joins twenty variables or more, which is over 10^18 places.
 pub fn many_places(rng: &mut Rng) -> Vec<u8> {
     let shape = Shape {
         nodes: rng.below(40),
@@ -189,12 +200,16 @@ pub fn many_places(rng: &mut Rng) -> Vec<u8> {
     let mut growing = Growing::new(rng, shape);
     let count = 20;
     let x = variables(&mut growing.p, "x", count);
+    let mut links = growing.p.no();
     for pair in x.windows(2) {
-        growing.p.equal(pair[1], pair[0]);
+        let link = growing.p.equal(pair[1], pair[0]);
+        links = growing.p.or(link, links);
     }
-    while growing.p.node_count() < count + 19 + shape.nodes {
+    let linked = growing.p.node_count();
+    while growing.p.node_count() < linked + shape.nodes {
         growing.step();
     }
-    growing.finish();
+    let other: Formula = growing.finish();
+    growing.p.or(other, links);
     growing.p.bytes()
 }

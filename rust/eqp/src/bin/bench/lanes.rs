@@ -155,9 +155,15 @@ fn digits(table: &Table, ranges: &Ranges) -> Vec<Digit> {
     variables.chain(truths).filter(moving).collect()
 }
 
-/// Decides one problem: all but the walk is the reference's.
-pub fn decide(budget: u64, problem: &[u8], work: &mut [u8], witness: &mut [u8]) -> Answer {
-    match try_decide(budget, problem, work, witness) {
+/// Decides a problem's root: all but the walk is the reference's.
+pub fn decide(
+    budget: u64,
+    root: usize,
+    problem: &[u8],
+    work: &mut [u8],
+    witness: &mut [u8],
+) -> Answer {
+    match try_decide(budget, root, problem, work, witness) {
         Ok(answer) => answer,
         Err(Refusal { number, place }) => Answer::Refused { number, place },
     }
@@ -165,12 +171,13 @@ pub fn decide(budget: u64, problem: &[u8], work: &mut [u8], witness: &mut [u8]) 
 
 fn try_decide(
     budget: u64,
+    root: usize,
     problem: &[u8],
     work: &mut [u8],
     witness: &mut [u8],
 ) -> Result<Answer, Refusal> {
     let refusal = |number| Err(Refusal { number, place: 0 });
-    let problem = check(problem)?;
+    let problem = check(problem, root)?;
     if work.len() < WORK_LEN {
         return refusal(11);
     }
@@ -193,26 +200,38 @@ fn try_decide(
 #[cfg(test)]
 mod tests {
     use super::*;
-    use eqp::samples::{inlined_tap, late_tap};
+    use crate::side::Decide;
+    use eqp::problem::last_node;
+    use eqp::samples::{inlined_tap, late_tap, row};
     use eqp::{reference, workloads};
 
     /// An answer, and what stands in the buffers after it.
     type After = (Answer, Vec<u8>, Vec<u8>);
 
-    fn after(
-        decide: fn(u64, &[u8], &mut [u8], &mut [u8]) -> Answer,
-        budget: u64,
-        problem: &[u8],
-    ) -> After {
+    fn after(decide: Decide, budget: u64, root: usize, problem: &[u8]) -> After {
         let (mut work, mut witness) = (vec![0xff; WORK_LEN], vec![0xff; WITNESS_LEN]);
-        let answer = decide(budget, problem, &mut work, &mut witness);
+        let answer = decide(budget, root, problem, &mut work, &mut witness);
         (answer, work, witness)
     }
 
-    fn expect_agreement(budget: u64, problem: &[u8]) -> Answer {
-        let ours = after(decide, budget, problem);
-        assert!(ours == after(reference::decide, budget, problem));
+    fn expect_agreement_at(budget: u64, root: usize, problem: &[u8]) -> Answer {
+        let ours = after(decide, budget, root, problem);
+        assert!(ours == after(reference::decide, budget, root, problem));
         ours.0
+    }
+
+    fn expect_agreement(budget: u64, problem: &[u8]) -> Answer {
+        expect_agreement_at(budget, last_node(problem), problem)
+    }
+
+    /// Every node of two rows, terms and formulas, and the number past the last.
+    #[test]
+    fn roots() {
+        for problem in [row(5).bytes(), row(9).bytes()] {
+            for root in 0..=last_node(&problem) + 1 {
+                expect_agreement_at(u64::MAX, root, &problem);
+            }
+        }
     }
 
     /// All kinds of small jobs, whole and with budgets around one and two blocks of places.
@@ -261,9 +280,10 @@ mod tests {
         assert_eq!(expect_agreement(1, b"EQP"), refused(1));
         let tap = inlined_tap().bytes();
         let (mut work, mut witness) = ([0; WORK_LEN], [0; WITNESS_LEN]);
-        let answer = decide(1, &tap, &mut work[1..], &mut witness);
+        let root = last_node(&tap);
+        let answer = decide(1, root, &tap, &mut work[1..], &mut witness);
         assert_eq!(answer, refused(11));
-        let answer = decide(1, &tap, &mut work, &mut witness[1..]);
+        let answer = decide(1, root, &tap, &mut work, &mut witness[1..]);
         assert_eq!(answer, refused(12));
     }
 }

@@ -2,12 +2,14 @@
 
 use std::time::{Duration, Instant};
 
+use eqp::problem::last_node;
 use eqp::workloads::Workload;
 use eqp::{host, reference, Answer, WITNESS_LEN, WORK_LEN};
 
 use crate::lanes;
 
-type Decide = fn(u64, &[u8], &mut [u8], &mut [u8]) -> Answer;
+/// How a side is called.
+pub type Decide = fn(u64, usize, &[u8], &mut [u8], &mut [u8]) -> Answer;
 
 /// One side: its buffers, and the places of all timed answers. They are compared in the end, so
 /// that no walk is left out because nobody looks at its answer.
@@ -28,8 +30,10 @@ impl Side {
         }
     }
 
+    /// Decides the last node, as the night run does.
     pub fn decide(&mut self, budget: u64, problem: &[u8]) -> Answer {
-        (self.decide)(budget, problem, &mut self.work, &mut self.witness)
+        let root = last_node(problem);
+        (self.decide)(budget, root, problem, &mut self.work, &mut self.witness)
     }
 
     /// How many nodes a function-free table has: past it the work buffer stays.

@@ -8,6 +8,7 @@ use std::process::{Command, Stdio};
 use std::thread;
 use std::time::Instant;
 
+use eqp::problem::last_node;
 use eqp::{smt, Answer};
 
 /// A solver that may be installed.
@@ -59,7 +60,8 @@ impl Solver {
     pub fn decide(&self, problems: &[Vec<u8>], wanted: &[&str]) -> Option<f64> {
         let mut script = String::from(smt::PREAMBLE);
         for problem in problems {
-            script += &smt::job(problem).expect("a problem of the bench is accepted");
+            let job = smt::job(problem, last_node(problem));
+            script += &job.expect("a problem of the bench is accepted");
         }
         let (printed, time) = self.run(script.into_bytes())?;
         self.expect_verdicts(&printed, wanted);

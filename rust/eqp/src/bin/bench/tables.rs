@@ -1,5 +1,6 @@
 //! Nanoseconds per place, table by table.
 
+use eqp::problem::last_node;
 use eqp::reference::check;
 use eqp::workloads::{self, Workload};
 use eqp::Answer;
@@ -69,6 +70,6 @@ fn bench_table(sides: &mut Sides, table: &Workload) -> [f64; 2] {
 
 /// The distinct function and predicate applications of a problem.
 fn counts(problem: &[u8]) -> (usize, usize) {
-    let checked = check(problem).expect("a bench table is accepted");
+    let checked = check(problem, last_node(problem)).expect("a bench table is accepted");
     (checked.functions, checked.predicates)
 }

@@ -45,6 +45,6 @@ fn try_read(text: &[u8], room: usize) -> Result<Vec<u8>, Refusal> {
     for node in &nodes {
         bytes.extend_from_slice(&node.to_bytes());
     }
-    check(&bytes)?;
+    check(&bytes, nodes.len() - 1)?;
     Ok(bytes)
 }
