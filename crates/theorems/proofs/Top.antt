@@ -1,6 +1,6 @@
 -- The top: what decide's promise means, the user's three demands in one place (docs/THEOREMS.md has them in words). It reads without
--- the lemmas. The promise is kept for any bytes, buffer lengths and budget; that decide returns and does nothing undefined is what
--- the language proves of every function.
+-- the lemmas. The promise is kept for any bytes, buffer lengths, budget and root; that decide returns and does nothing undefined is
+-- what the language proves of every function.
 --
 -- s are the problem's bytes, root the node named, work and witness the buffers as lent, work′ and witness′ as left, r the answer.
 -- `Meets s root work room x`: the input meets the condition of refusal x. `Refuses`: it is the first that is met, in the order tried,
@@ -83,8 +83,8 @@ module _
       → (places ≡ product a) × (tried ≡ product a) × (product a ≤ budget) × ValidAt s root × (witness′ ≡ witness)
   valid-means = valid-decision budget root s work witness r work′ witness′ promise
 
-  -- FALSIFIED (demand 2): the tables written make the named root of the original problem false; the place tried last is false and all before it
-  -- are true; `written` bytes are the witness of that place, the rest of the buffer as it was
+  -- FALSIFIED (demand 2): the tables written make the named root of the original problem false; the place tried last is false and
+  -- all before it are true; `written` bytes are the witness of that place, the rest of the buffer as it was
   pub falsified-means : (tried places written : ℕ) → r ≡ Decision.Falsified tried places written
       → (places ≡ product a) × (1 ≤ tried) × (tried ≤ product a) × (tried ≤ budget)
       × (trueAt a tried ≡ false) × ((p : ℕ) → 1 ≤ p → p < tried → trueAt a p ≡ true)

@@ -46,7 +46,7 @@ asked s root = problemBytes (symbolsOf s) (trimmed (symbolsOf s) (take (suc root
 abbrev pub rootWrong : List Node → ℕ → Bool
 rootWrong t root = leb (length t) root || isTerm (node t root)
 
--- 9 and 10 count what the root reaches
+-- 9 and 10 count what the root reaches: they are conditions on the problem asked
 abbrev pub limitConditions : List ℕ → List (Option Refused)
 limitConditions a =
     refuseIf (ltb 24 (functionsIn (nodesOf a))) 9 ∷ refuseIf (ltb 16 (predicatesIn (nodesOf a))) 10 ∷ []
