@@ -18,7 +18,7 @@ pub mod reach;
 pub mod trim;
 
 // What a root comes to: the whole problem is asked, or a part of it, and its header; or what refuses the root.
-#[derive(Drop)]
+#[derive(Clone, Copy)]
 pub enum Asked {
     Whole(Header),
     Part(Header),

@@ -107,7 +107,7 @@ fn lay_and_search(
 }
 
 // What is known of a table that is laid and measured, before its places are searched, and how many of them may be tried.
-#[derive(Drop)]
+#[derive(Clone, Copy)]
 pub struct Scope {
     pub budget: u64,
     pub all: Tally,

@@ -5,7 +5,7 @@ ghost use Rattle.definitions.specs.Operations.Readings.{refusal_read};
 
 // The refusals, one list for every operation, by number: some numbers are not given. The order in which an operation tries its own
 // is that of its conditions (specs/Problem/Asked, specs/Operations/Answers): decide's 16 comes after 7. Four of them have a place.
-#[derive(Drop)]
+#[derive(Clone, Copy)]
 pub enum Refusal {
     TooShort,
     NotEqp,
@@ -74,35 +74,35 @@ pub fn place_of(refusal: Refusal) -> usize
 }
 
 // What check answers: the counts of distinct function and predicate applications that the root reaches.
-#[derive(Drop)]
+#[derive(Clone, Copy)]
 pub enum Checked {
     Accepted { functions: usize, predicates: usize },
     Refused(Refusal),
 }
 
 // What eliminate answers: the count of function-free nodes, and the image of the root.
-#[derive(Drop)]
+#[derive(Clone, Copy)]
 pub enum Eliminated {
     Table { nodes: usize, root: usize },
     Refused(Refusal),
 }
 
 // What ranges answers beside the tops: the count of truth variables, and the product.
-#[derive(Drop)]
+#[derive(Clone, Copy)]
 pub enum Measured {
     Given { truths: usize, product: u64 },
     Refused(Refusal),
 }
 
 // What ranges answers: each variable's top by number, 0 past the last variable and in a refusal.
-#[derive(Drop)]
+#[derive(Clone, Copy)]
 pub struct Ranges {
     pub tops: [u8; 24],
     pub answer: Measured,
 }
 
 // What decide answers; written is the length of the witness.
-#[derive(Drop)]
+#[derive(Clone, Copy)]
 pub enum Decision {
     Valid {
         tried: u64,
@@ -121,7 +121,7 @@ pub enum Decision {
 }
 
 // What read answers: the length of the problem that it wrote.
-#[derive(Drop)]
+#[derive(Clone, Copy)]
 pub enum Reading {
     Problem { written: usize },
     Refused(Refusal),

@@ -4,7 +4,7 @@
 ghost use Rattle.std.specs.Prelude.{◌≤◌, ◌≡◌};
 ghost use Rattle.elimination.specs.Tallied.{no_tally, nodes_laid, next_of, tallied};
 
-#[derive(Drop)]
+#[derive(Clone, Copy)]
 pub struct Tally {
     // how many distinct applications there are, how many of functions and how many of predicates
     pub count: usize,

@@ -14,7 +14,7 @@ use problem::bytes::put;
 use text::read;
 
 // The six numbers of the answer.
-#[derive(Drop)]
+#[derive(Clone, Copy)]
 struct Reply {
     verdict: u8,
     refusal: u8,

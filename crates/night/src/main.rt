@@ -8,7 +8,7 @@ use libc::{STDIN_FILENO, STDOUT_FILENO};
 use problem::bytes::two_at;
 
 // What reading a job comes to.
-#[derive(Drop)]
+#[derive(Clone, Copy)]
 enum Next {
     Answered,
     Ended,

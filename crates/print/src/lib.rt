@@ -35,7 +35,7 @@ pub fn numbers(label: &[u8], all: &[u8]) {
     spaced(all, Base::Ten);
 }
 
-#[derive(Drop)]
+#[derive(Clone, Copy)]
 enum Base {
     Ten,
     Sixteen,

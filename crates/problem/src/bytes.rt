@@ -4,7 +4,7 @@ ghost use Rattle.definitions.specs.Bytes.{two_at};
 ghost use Rattle.definitions.specs.Operations.Buffers.{over};
 
 // What a search finds: a number, or nothing.
-#[derive(Drop)]
+#[derive(Clone, Copy)]
 pub enum Found {
     At(usize),
     Nothing,

@@ -9,14 +9,14 @@ use crate::bytes::{two_at, wide};
 use definitions::Refusal;
 
 // What the header says: how many symbols and how many nodes.
-#[derive(Drop)]
+#[derive(Clone, Copy)]
 pub struct Header {
     pub symbols: usize,
     pub nodes: usize,
 }
 
 // The header, or what refuses it.
-#[derive(Drop)]
+#[derive(Clone, Copy)]
 pub enum Head {
     Fine(Header),
     Bad(Refusal),

@@ -53,7 +53,7 @@ fn symbol_right(s: &[u8], header: Header, op: u8, k: usize) -> bool
 }
 
 // What a node wants at an operand field.
-#[derive(Drop)]
+#[derive(Clone, Copy)]
 pub enum Wanted {
     Unused,
     Term,

@@ -10,7 +10,7 @@ ghost use Rattle.problem.specs.Nodes.{node_read, front_bytes};
 use crate::bytes::put;
 
 // A node as numbers: its op, its symbol and its operand numbers.
-#[derive(Drop)]
+#[derive(Clone, Copy)]
 pub struct Node {
     pub op: u8,
     pub symbol: u8,

@@ -22,7 +22,7 @@ pub mod leaves;
 pub mod sizes;
 
 // A table's counts.
-#[derive(Drop)]
+#[derive(Clone, Copy)]
 pub struct Shape {
     pub nodes: usize,
     pub variables: usize,
@@ -102,7 +102,7 @@ pub fn shape_of(all: Tally) -> Shape
 }
 
 // The tops and the product of a table.
-#[derive(Drop)]
+#[derive(Clone, Copy)]
 pub struct Spans {
     pub tops: [u8; 24],
     pub product: Product,

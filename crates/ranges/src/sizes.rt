@@ -38,7 +38,7 @@ pub fn tops(components: [u32; 24], variables: usize) -> [u8; 24]
 }
 
 // A product that is at most 10^18, or that it is more.
-#[derive(Drop)]
+#[derive(Clone, Copy)]
 pub enum Product {
     Of(u64),
     Big,

@@ -5,7 +5,7 @@ ghost use Rattle.solve_lines.specs.Read.{budget_read};
 
 use terms::bytes::is_digit;
 
-#[derive(Drop)]
+#[derive(Clone, Copy)]
 pub enum Budget {
     Places(u64),
     Wrong,

@@ -8,7 +8,7 @@ use terms::declarations::{is_declaring, name_of};
 use terms::tokens::{Lexeme, next};
 
 // A name's bytes by their offsets in the text, bars left out, and whether it is written in bars.
-#[derive(Drop)]
+#[derive(Clone, Copy)]
 pub struct Written {
     pub from: usize,
     pub to: usize,

@@ -11,7 +11,7 @@ use lines::put::{put, put_digits, put_number};
 use problem::bytes::wide;
 
 // A symbol, three argument values, and the value there.
-#[derive(Drop)]
+#[derive(Clone, Copy)]
 pub struct Row {
     pub symbol: u8,
     pub x: u8,

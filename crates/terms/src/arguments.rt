@@ -9,7 +9,7 @@ use crate::heads::{Head, Headed, Wanted, bracketed, ready, wants};
 use crate::tokens::Lexeme;
 
 // What follows in a list: its end, an argument, or what will not do.
-#[derive(Drop)]
+#[derive(Clone, Copy)]
 pub enum Next {
     End,
     Argument { formula: bool },

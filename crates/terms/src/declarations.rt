@@ -11,7 +11,7 @@ use crate::exact::{Due, Step, exact};
 use crate::tokens::{Lexeme, Name, next};
 
 // How many arguments are counted, up to three, and the offset behind the bracket that closes them.
-#[derive(Drop)]
+#[derive(Clone, Copy)]
 pub struct Counted {
     pub arity: usize,
     pub next: usize,

@@ -13,7 +13,7 @@ use problem::bytes::Found;
 
 // How many symbols are declared; the offset of the command that is being read, before which all of them stand; the sort's name;
 // and whether a constant of the sort is among them.
-#[derive(Drop)]
+#[derive(Clone, Copy)]
 pub struct Declared {
     pub count: usize,
     pub command: usize,
@@ -22,7 +22,7 @@ pub struct Declared {
 }
 
 // A declared symbol: its number, and its byte in the problem, the arity and 16 more for Bool.
-#[derive(Drop)]
+#[derive(Clone, Copy)]
 pub enum Known {
     Symbol { number: usize, byte: usize },
     Nothing,

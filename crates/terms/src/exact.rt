@@ -7,14 +7,14 @@ use crate::bytes::same;
 use crate::tokens::{Lexeme, next};
 
 // The offset behind a token that had to come; or the place where another stands, or the text ends.
-#[derive(Drop)]
+#[derive(Clone, Copy)]
 pub enum Step {
     At(usize),
     Wrong(usize),
 }
 
 // A token that must come: a bracket, 0, or the reserved word or the symbol of a name.
-#[derive(Drop)]
+#[derive(Clone, Copy)]
 pub enum Due {
     Opening,
     Closing,

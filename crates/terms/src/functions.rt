@@ -11,14 +11,14 @@ use crate::ranks::{Arity, Given, read_arity, read_result};
 use crate::tokens::{Lexeme, Name, next};
 
 // A symbol's byte, and the offset behind its declaration; or the place of a token that will not do.
-#[derive(Drop)]
+#[derive(Clone, Copy)]
 pub enum Ranked {
     Rank { byte: usize, at: usize },
     Wrong(usize),
 }
 
 // A declared symbol: its name, its byte and the offset behind its declaration; or the place of a token that will not do.
-#[derive(Drop)]
+#[derive(Clone, Copy)]
 pub enum Function {
     Symbol { name: Name, byte: usize, at: usize },
     Wrong(usize),

@@ -11,7 +11,7 @@ use crate::words::core;
 use problem::bytes::Found;
 
 // What heads a term: a declared symbol by its number, its result and its arity; ite by the sort that it chooses in; and Core's.
-#[derive(Drop)]
+#[derive(Clone, Copy)]
 pub enum Head {
     Applied {
         number: usize,
@@ -31,14 +31,14 @@ pub enum Head {
 }
 
 // The head of a name, if it gives one.
-#[derive(Drop)]
+#[derive(Clone, Copy)]
 pub enum Headed {
     Head(Head),
     Nothing,
 }
 
 // The sort of the next argument, if one may come.
-#[derive(Drop)]
+#[derive(Clone, Copy)]
 pub enum Wanted {
     Term,
     Formula,

@@ -16,7 +16,7 @@ use problem::put::Node;
 
 // What is kept of a list between two arguments: their count, up to three; the numbers of the first three and of the last; what and,
 // or and = have joined so far; and how many negations of => wait.
-#[derive(Drop)]
+#[derive(Clone, Copy)]
 pub struct Row {
     pub seen: usize,
     pub first: usize,
@@ -27,7 +27,7 @@ pub struct Row {
     pub waiting: usize,
 }
 
-#[derive(Drop)]
+#[derive(Clone, Copy)]
 pub struct Listed {
     pub row: Row,
     pub laying: Laying,

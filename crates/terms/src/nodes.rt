@@ -12,14 +12,14 @@ use problem::bytes::{Found, two_at};
 use problem::put::{Node, put_node};
 
 // How many nodes are laid, and whether more would be than a problem may have: then nothing is laid any more.
-#[derive(Drop)]
+#[derive(Clone, Copy)]
 pub struct Laying {
     pub count: usize,
     pub over: bool,
 }
 
 // A node's number, and the laying after it.
-#[derive(Drop)]
+#[derive(Clone, Copy)]
 pub struct Asked {
     pub number: usize,
     pub laying: Laying,

@@ -11,7 +11,7 @@ use crate::exact::{Due, Step, exact};
 use crate::tokens::{Lexeme, Name, next};
 
 // A name, and the offset behind it; or the place where none stands that will do.
-#[derive(Drop)]
+#[derive(Clone, Copy)]
 pub enum Named {
     Name { name: Name, at: usize },
     Wrong(usize),

@@ -7,7 +7,7 @@ use crate::bytes::same;
 use crate::tokens::{Lexeme, Name, next};
 
 // A token where a sort may stand.
-#[derive(Drop)]
+#[derive(Clone, Copy)]
 enum Part {
     Closing,
     Sort,
@@ -16,14 +16,14 @@ enum Part {
 }
 
 // So many arguments, and the offset behind their closing bracket; or the place of a token that will not do.
-#[derive(Drop)]
+#[derive(Clone, Copy)]
 pub enum Arity {
     Counted { arity: usize, at: usize },
     Wrong(usize),
 }
 
 // The result, and the offset behind it; or the place of a token that will not do.
-#[derive(Drop)]
+#[derive(Clone, Copy)]
 pub enum Given {
     Result { formula: bool, at: usize },
     Wrong(usize),

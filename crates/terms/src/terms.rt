@@ -11,7 +11,7 @@ use crate::tokens::{Lexeme, Token, next};
 use definitions::Refusal;
 
 // A term that is read: the offset behind it, its node's number and the laying after it; or the refusal.
-#[derive(Drop)]
+#[derive(Clone, Copy)]
 pub enum Term {
     Read { at: usize, asked: Asked },
     Refused(Refusal),

@@ -8,13 +8,13 @@ use crate::words::reserved;
 use problem::bytes::Found;
 
 // A name's bytes, bars left out, by their offsets in the text.
-#[derive(Drop)]
+#[derive(Clone, Copy)]
 pub struct Name {
     pub from: usize,
     pub to: usize,
 }
 
-#[derive(Drop)]
+#[derive(Clone, Copy)]
 pub enum Lexeme {
     End,
     Opening,
@@ -26,7 +26,7 @@ pub enum Lexeme {
 }
 
 // A token, the place of its first byte and the offset after its last one. At the end of the text both are its length.
-#[derive(Drop)]
+#[derive(Clone, Copy)]
 pub struct Token {
     pub lexeme: Lexeme,
     pub place: usize,

@@ -6,7 +6,7 @@ use terms::exact::{Due, Step, exact};
 use terms::tokens::{Lexeme, next};
 
 // The text ends, or something stands there that will not do.
-#[derive(Drop)]
+#[derive(Clone, Copy)]
 pub enum Ended {
     Yes,
     Wrong(usize),

@@ -8,7 +8,7 @@ use terms::exact::{Due, Step, exact};
 use terms::tokens::{Lexeme, Name, next};
 
 // A command's word, and the offset behind it; or the place of a token that will not do.
-#[derive(Drop)]
+#[derive(Clone, Copy)]
 pub enum Command {
     Declare(usize),
     Assert(usize),

@@ -20,7 +20,7 @@ use terms::nodes::{Asked, Laying, ask};
 use terms::whole::put_problem;
 
 // Whether a problem's applications are few enough.
-#[derive(Drop)]
+#[derive(Clone, Copy)]
 enum Limit {
     Fine,
     Refused(Refusal),

@@ -4,7 +4,7 @@ use terms::declared::Declared;
 use terms::nodes::Laying;
 
 // The declared symbols, with the offset of the next command; how many asserts are read; and the laying.
-#[derive(Drop)]
+#[derive(Clone, Copy)]
 pub struct Script {
     pub declared: Declared,
     pub asserts: usize,
@@ -12,7 +12,7 @@ pub struct Script {
 }
 
 // A command is read, check-sat is and nothing follows, or the text is refused.
-#[derive(Drop)]
+#[derive(Clone, Copy)]
 pub enum Went {
     On(Script),
     Done(Script),

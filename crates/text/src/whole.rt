@@ -7,7 +7,7 @@ use crate::stepping::step;
 use definitions::Refusal;
 
 // The text is read out, or refused.
-#[derive(Drop)]
+#[derive(Clone, Copy)]
 pub enum Whole {
     Read(Script),
     Refused(Refusal),

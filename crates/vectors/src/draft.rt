@@ -3,7 +3,7 @@
 ghost use Rattle.std.specs.Prelude.{◌<◌};
 
 // Room for 33 symbols and 257 nodes, one more than the limits. The root is the last node, unless a case asks another.
-#[derive(Drop)]
+#[derive(Clone, Copy)]
 pub struct Draft {
     pub bytes: [u8; 2112],
     pub length: usize,
@@ -171,7 +171,7 @@ impl Draft {
 // What a run has at a number k: a symbol byte; the variable or the truth variable of symbol k; a function or a predicate of node
 // k, with node 0 for its further arguments; the equation of node k with itself, or with node k + 1; the or of the last node and
 // node k, so that the last or of a run reaches all that the run has passed; true.
-#[derive(Drop)]
+#[derive(Clone, Copy)]
 pub enum Each {
     Symbol(u8),
     Variable,

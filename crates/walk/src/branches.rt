@@ -11,7 +11,7 @@ use problem::bytes::{number, two_at, wide};
 use ranges::Shape;
 
 // Where the left and the right cell are equal it is the cell same, else the cell apart.
-#[derive(Drop)]
+#[derive(Clone, Copy)]
 pub struct Branch {
     pub left: usize,
     pub right: usize,

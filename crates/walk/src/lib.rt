@@ -26,14 +26,14 @@ pub mod split;
 
 // How far the walk went: the places looked at, in order from place 1, and whether the last of them is false. Places of the same
 // block past the last one looked at have been worked out too; they are not counted, and nothing depends on them.
-#[derive(Drop)]
+#[derive(Clone, Copy)]
 pub struct Walked {
     pub tried: u64,
     pub falsified: bool,
 }
 
 // What is walked: a table, the node whose truth is looked at, and how its digits are split.
-#[derive(Drop)]
+#[derive(Clone, Copy)]
 pub struct Plan {
     pub shape: Shape,
     pub root: usize,
@@ -119,7 +119,7 @@ fn walk_large(table: &[u8], plan: Plan, start: Odometer, budget: u64, values: &m
 
 // What the walk begins with: where the tail of each digit begins, the slow digits at the first block, and where the lanes of the
 // root's cell begin.
-#[derive(Drop)]
+#[derive(Clone, Copy)]
 pub struct Begun {
     pub starts: [u16; 65],
     pub slow: Odometer,

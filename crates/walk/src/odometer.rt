@@ -2,7 +2,7 @@
 ghost use Rattle.std.specs.Prelude.{◌≤◌};
 ghost use Rattle.walk.specs.Digits.{Turning, NextIs, SlowIs};
 
-#[derive(Drop)]
+#[derive(Clone, Copy)]
 pub struct Odometer {
     pub digits: [u8; 40],
     pub sizes: [u8; 40],
@@ -11,7 +11,7 @@ pub struct Odometer {
 
 // The next digits, or the end, where there are none and the digits are the first again. All digits below the turned one went back
 // to 0, and those above it stayed.
-#[derive(Drop)]
+#[derive(Clone, Copy)]
 pub struct Step {
     pub odometer: Odometer,
     pub turned: usize,

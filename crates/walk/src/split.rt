@@ -7,7 +7,7 @@ use crate::odometer::Odometer;
 use problem::bytes::wide;
 
 // How many digits are fast, a lane for each of their assignments, and the chunks of sixteen lanes that a cell has.
-#[derive(Drop)]
+#[derive(Clone, Copy)]
 pub struct Parts {
     pub fast: usize,
     pub lanes: usize,

@@ -10,7 +10,7 @@ use lib.ListN.{length, take, length-append}
 use lib.Seq.{take-append-le, take-append_seam, take_all, take-length}
 use Rattle.definitions.specs.Lists.{snoc}
 use Rattle.definitions.specs.Text.Tokens.{Token, opening, closing, nought, wrong, symbol, word}
-use Rattle.definitions.specs.Text.Grammar.{Symbol}
+use Rattle.definitions.specs.Text.Grammar.{Symbol, symbols_in}
 use Rattle.definitions.specs.Text.Reader.{Stage, exact, naming, commanding, declaring, finished, taking, giving, inside, heading, State, start, level_of}
 use Rattle.theorems.specs.Texts.{opens, closes, Shallow}
 use Rattle.theorems.proofs.Laws.Tests.{split}
@@ -36,7 +36,7 @@ module _ (ts : List Token) (st : State) (e : runs start ts ≡ some st) where
   pub few_open : level_of st.stage ≤ 64 → opens ts ≤ closes ts + 65
   few_open h =
       let u = inv_upper st.sort_name st.commands st.stage ts (keep_run ts start st [] start_inv e) in
-      let f = few _ st.stage (can_run ts start st can_start e) h in
+      let f = few (symbols_in st.commands) st.stage (can_run ts start st can_start e) h in
       omega arith
 
   pub many_open : 64 < level_of st.stage → 66 + closes ts ≤ opens ts

@@ -56,10 +56,14 @@ fresh_snoc sig y fresh new k h = go (ltb k (length sig)) refl
     go : (b : Bool) → ltb k (length sig) ≡ b → new_function (take k (snoc sig y)) (symbol_at (snoc sig y) k).name ≡ true
     go true p =
         let l = ltb-true k (length sig) p in
-        rw (take-append-le k sig (y ∷ []) (omega arith), get_or-append sig (y ∷ []) no_symbol k l) (fresh k l)
+        let before : take k (snoc sig y) ≡ take k sig = take-append-le k sig (y ∷ []) (omega arith) in
+        let here : symbol_at (snoc sig y) k ≡ symbol_at sig k = get_or-append sig (y ∷ []) no_symbol k l in
+        ap₂ (λ (t : List Symbol) (s : Symbol). new_function t s.name) before here ∙ fresh k l
     go false p =
         let e : k ≡ length sig = (let m = ltb-false k (length sig) p in let q : length (snoc sig y) ≡ length sig + 1 = length-append sig (y ∷ []) in omega arith) in
-        rw (e, take-append_seam sig (y ∷ []), get_or-append_seam sig y [] no_symbol) new
+        let all : take k (snoc sig y) ≡ sig = rw e (take-append_seam sig (y ∷ [])) in
+        let last : symbol_at (snoc sig y) k ≡ y = rw e (get_or-append_seam sig y [] no_symbol) in
+        ap₂ (λ (t : List Symbol) (s : Symbol). new_function t s.name) all last ∙ new
 
 -- a new name is none of those taken
 not_taken : (taken : List (List ℕ)) (name : List ℕ) → new_name taken name ≡ true → any (same_bytes name) taken ≡ false
