@@ -32,7 +32,7 @@ SIGNATURE = re.compile(
 WORD = re.compile(r"[^\s(){}.;,@\"«»]+")
 COMMENT = re.compile(r"(?<!\S)--[^\n]*")
 GHOST_USE = re.compile(r"ghost\s+use\b[^;]*;")
-CLAUSE = re.compile(r"^\s*(?:requires|ensures|ghost)\b.*$", re.M)
+CLAUSE = re.compile(r"^\s*(?:requires|ensures)\b.*$", re.M)
 MODULE = re.compile(r"(?:^|[\s(){}.;,@])[A-Z]\w*\.$")
 SPAN = re.compile(r"`[^`\n]+`")
 

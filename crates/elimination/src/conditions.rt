@@ -4,7 +4,7 @@ ghost use Rattle.definitions.specs.Lists.{snoc};
 ghost use Rattle.definitions.specs.Problem.Node.{plain};
 ghost use Rattle.definitions.specs.Elimination.{last, condition};
 ghost use Rattle.problem.specs.Lays.{Lays};
-ghost use Rattle.elimination.specs.Choice.{Small, one_more_lem};
+ghost use Rattle.elimination.specs.Choice.{Small, one_more};
 
 use problem::put::{Node, lay};
 

@@ -3,7 +3,7 @@ ghost use Rattle.std.specs.Prelude.{◌≡◌, ◌<◌, [], length, take};
 ghost use Rattle.definitions.specs.Problem.Node.{node, same};
 ghost use Rattle.definitions.specs.Problem.Check.{nodes_of};
 ghost use Rattle.problem.specs.Shape.{Shaped};
-ghost use Rattle.problem.specs.Stages.{found_of, one_symbol_lem, first_same};
+ghost use Rattle.problem.specs.Stages.{found_of, one_symbol, first_same};
 
 use crate::bytes::{Found, two_at};
 use crate::head::Header;

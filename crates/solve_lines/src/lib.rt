@@ -2,7 +2,7 @@
 // length; a declared name is given by its offsets, since it may be long. That the pieces in this order are the definition's
 // output is shown in proofs/Pieces.
 ghost use Rattle.std.specs.Prelude.{◌≡◌, ◌≤◌, length, take};
-ghost use Rattle.definitions.specs.Solve.{too_long_lem, bad_budget, answer_lines, verdict_lines};
+ghost use Rattle.definitions.specs.Solve.{too_long, bad_budget, answer_lines, verdict_lines};
 ghost use Rattle.definitions.specs.Operations.Answers.{isStopped};
 ghost use Rattle.definitions.specs.Operations.Readings.{decision_read};
 

@@ -5,7 +5,7 @@ ghost use Rattle.definitions.specs.Problem.Ops.{is_function};
 ghost use Rattle.definitions.specs.Witness.{row_at};
 ghost use Rattle.definitions.specs.Solve.{bar, another, arguments, truth, value, row_start, row_end};
 ghost use Rattle.lines.specs.Wrote.{Wrote};
-ghost use Rattle.solve_lines.specs.Read.{row_read_lem};
+ghost use Rattle.solve_lines.specs.Read.{row_read};
 
 use lines::put::{put, put_digits, put_number};
 use problem::bytes::wide;

@@ -1,6 +1,6 @@
 // The bytes of a text: which of them make a word, a gap or a name in bars, and whether two names are the same.
 ghost use Rattle.std.specs.Prelude.{◌≡◌, ◌+◌};
-ghost use Rattle.definitions.specs.Text.Ascii.{same_bytes_lem};
+ghost use Rattle.definitions.specs.Text.Ascii.{same_bytes};
 ghost use Rattle.definitions.specs.Text.Tokens.{is_of, white_space, line_break, digit, word_byte, bar_byte};
 ghost use Rattle.definitions.specs.Text.Tokens as tokens;
 

@@ -1,6 +1,6 @@
 // A declaration read again from the text: what stands after the word declare-fun (02, E1).
 ghost use Rattle.std.specs.Prelude.{◌≡◌, ◌≤◌, length};
-ghost use Rattle.definitions.specs.Text.Ascii.{ascii, same_bytes_lem};
+ghost use Rattle.definitions.specs.Text.Ascii.{ascii, same_bytes};
 ghost use Rattle.definitions.specs.Text.Tokens.{word};
 ghost use Rattle.terms.specs.Lexing.{name_of, lexeme_read, NameWithin};
 ghost use Rattle.terms.specs.Reading.{is_token};

@@ -6,7 +6,7 @@ ghost use Rattle.definitions.specs.Text.Nodes.{laid};
 ghost use Rattle.definitions.specs.Text.Nodes as table;
 ghost use Rattle.terms.specs.Laying.{TableFits, Performs};
 ghost use Rattle.terms.specs.Lists.{no_row, negated, prepared, joined_by, equated, joins, added, disjoined, fields, ended};
-ghost use Rattle.terms.specs.Rowing.{waiting_in, row_read_lem, placed, RowIs, RowSmall, Rows, Finishes};
+ghost use Rattle.terms.specs.Rowing.{waiting_in, row_read, placed, RowIs, RowSmall, Rows, Finishes};
 ghost use Rattle.terms.specs.Symbols.{sort_is, head_read};
 
 use crate::heads::Head;

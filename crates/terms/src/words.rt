@@ -1,7 +1,7 @@
 // The words that a name must not be: the reserved words of SMT-LIB 2.6, and the names that its Core theory has already.
 ghost use Rattle.std.specs.Prelude.{◌≡◌, not};
 ghost use Rattle.definitions.specs.Lists.{any, first_failing};
-ghost use Rattle.definitions.specs.Text.Ascii.{same_bytes_lem};
+ghost use Rattle.definitions.specs.Text.Ascii.{same_bytes};
 ghost use Rattle.definitions.specs.Text.Tokens.{RESERVED};
 ghost use Rattle.definitions.specs.Text.Grammar.{CORE};
 ghost use Rattle.problem.specs.Stages.{found_of};
