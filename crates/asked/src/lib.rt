@@ -1,6 +1,8 @@
 // The problem asked of a named root (02, E2): the nodes that the root reaches, alone. `ask` says whether that is the whole problem,
 // as for most jobs, or a part of it, which `trim` lays in a lent buffer; every stage after these works on the problem asked. `check`
 // answers the first of refusals 1 to 7, 16, 9 and 10 whose condition holds, or the counts of distinct applications.
+#![tactic(auto)]
+
 ghost use Rattle.definitions.specs.Operations.Promises.{CheckPromise};
 ghost use Rattle.theorems.proofs.Accepted.{Layout};
 ghost use Rattle.problem.specs.Shape.{Shaped};

@@ -1,5 +1,7 @@
 // The decision: `decide` lays the function-free table, measures the ranges, walks the places within the budget, and writes the
 // witness where a place is false.
+#![tactic(auto)]
+
 ghost use Rattle.std.specs.Prelude.{◌≡◌, ◌≤◌, length};
 ghost use Rattle.std.proofs.Math.Option.{none};
 ghost use Rattle.definitions.specs.Problem.Asked.{limit_refusal};

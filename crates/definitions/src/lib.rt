@@ -1,5 +1,7 @@
 // The answers of the public operations. What each answer is, for every input, is said in specs/: there the answers are
 // the paper's numbers and values, and specs/Operations/Readings lists them for each case below.
+#![tactic(auto)]
+
 ghost use Rattle.std.specs.Prelude.{◌≡◌};
 ghost use Rattle.definitions.specs.Operations.Readings.{refusal_read};
 

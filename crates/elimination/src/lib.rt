@@ -1,5 +1,7 @@
 // The function-free table: `eliminate` lays it into the work buffer. The problem's nodes are taken in order. What the later nodes
 // and the later stages need is lent from one to the next, since to copy it at every node takes longer than most small jobs.
+#![tactic(auto)]
+
 ghost use Rattle.std.specs.Prelude.{◌+◌, ◌<◌, ◌≤◌, ◌≡◌, length};
 ghost use Rattle.definitions.specs.Operations.Promises.{EliminatePromise};
 ghost use Rattle.theorems.proofs.Accepted.{Formed, Accepted};

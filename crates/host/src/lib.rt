@@ -1,5 +1,7 @@
 // The calls from C: `eqp_decide` decides a named root of a problem, `eqp_read` reads one from a text, and both lay the answer down in 32 bytes, low
 // byte first.
+#![tactic(auto)]
+
 ghost use Rattle.std.specs.Prelude.{◌≡◌, ◌≤◌, length};
 ghost use Rattle.definitions.specs.Bytes.{bytes_of};
 ghost use Rattle.definitions.specs.Operations.Host.{answer_bytes, read_bytes, thirty_two};

@@ -1,6 +1,8 @@
 // The lines of the night run (01, 'The night run'), each laid in a lent buffer and returned as its length. The longest is that
 // of a falsified job: 3 bytes, 21, 10, 21, 21 and a line feed are 77. That reading job by job gives the run whole is shown in
 // proofs/Reading.
+#![tactic(auto)]
+
 ghost use Rattle.std.specs.Prelude.{◌≡◌, ◌≤◌, length, take};
 ghost use Rattle.definitions.specs.Night.{TITLE, line, job_line, closing, budget_of};
 ghost use Rattle.lines.specs.Wrote.{last_word};

@@ -2,6 +2,8 @@
 // has its contract in the crate lines, which also shows that reading in this order gives the definition's output: no contract
 // can speak of the bytes read and written here. A write that fails ends the run; a read that fails counts as the end of the
 // input.
+#![tactic(auto)]
+
 ghost use Rattle.std.specs.Prelude.{◌≤◌, length};
 
 use libc::{STDIN_FILENO, STDOUT_FILENO};

@@ -1,4 +1,6 @@
 // Lines on standard output, for the programs whose output is compared with a file.
+#![tactic(auto)]
+
 use definitions::{Refusal, number_of, place_of};
 use libc::STDOUT_FILENO;
 

@@ -1,4 +1,6 @@
 // Problem bytes: which tables are well formed. `layout` answers the header, or the first of refusals 1 to 7 whose condition holds.
+#![tactic(auto)]
+
 ghost use Rattle.problem.specs.Stages.{Passed, LayoutRead};
 ghost use Rattle.problem.specs.Shape.{Shaped};
 

@@ -1,4 +1,6 @@
 // The ranges: leaves, components, ranks and tops of the function-free table, and the product of all range sizes.
+#![tactic(auto)]
+
 ghost use Rattle.std.specs.Prelude.{◌≤◌, ◌≡◌, length};
 ghost use Rattle.definitions.specs.Operations.Promises.{RangesPromise};
 ghost use Rattle.theorems.proofs.Accepted.{Formed};

@@ -2,6 +2,8 @@
 // the file, and without one the text comes from standard input; its second is the budget. What each line is has its contract
 // in the crate solve_lines: no contract can speak of the bytes read and written here. A write that fails ends the run; a read
 // that fails counts as the end of the text.
+#![tactic(auto)]
+
 ghost use Rattle.std.specs.Prelude.{◌≤◌, length};
 
 use decision::decide;

@@ -1,6 +1,8 @@
 // What the program solve prints (02, E1, 'The host and the program'): each piece is laid in a lent buffer and returned as its
 // length; a declared name is given by its offsets, since it may be long. That the pieces in this order are the definition's
 // output is shown in proofs/Pieces.
+#![tactic(auto)]
+
 ghost use Rattle.std.specs.Prelude.{◌≡◌, ◌≤◌, length, take};
 ghost use Rattle.definitions.specs.Solve.{too_long, bad_budget, answer_lines, verdict_lines};
 ghost use Rattle.definitions.specs.Operations.Answers.{isStopped};

@@ -1,4 +1,6 @@
 // The parts of a text in SMT-LIB 2.6: tokens, declared symbols and terms, each read as docs/TEXT.md describes it.
+#![tactic(auto)]
+
 pub mod arguments;
 pub mod bytes;
 pub mod declarations;

@@ -1,4 +1,6 @@
 // Jobs in solver text: a text of the subset of SMT-LIB 2.6 that docs/TEXT.md describes becomes a problem (02, E1).
+#![tactic(auto)]
+
 ghost use Rattle.definitions.specs.Operations.Promises.{ReadPromise};
 ghost use Rattle.text.specs.Readable.{Readable};
 

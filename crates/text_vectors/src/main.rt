@@ -1,5 +1,7 @@
 // Texts worked by hand (docs/TEXT.md), a line for each answer. The lines are compared with the file stdout, which is worked out
 // from the texts and not from this program.
+#![tactic(auto)]
+
 use decision::decide;
 use definitions::{Decision, Reading};
 use problem::head::last_node;

@@ -1,5 +1,7 @@
 // The public operations on fixed problems, a line for each answer. The lines are compared with the file stdout, which is worked
 // out from documents 01 and 02 and not from this program.
+#![tactic(auto)]
+
 mod answers;
 mod budgets;
 mod draft;

@@ -2,6 +2,8 @@
 // are worked out in blocks: the first digits, the fast ones, stand in the lanes of a block, and the odometer of the others, the
 // slow ones, goes from block to block. The values of the nodes are kept from one block to the next, so that only nodes that depend
 // on a digit that moved are worked out again.
+#![tactic(auto)]
+
 ghost use Rattle.std.specs.Prelude.{◌≡◌, ◌+◌, ◌*◌, ◌≤◌, min, length};
 ghost use Rattle.definitions.specs.Lists.{product_of};
 ghost use Rattle.ranges.specs.Table.{TableIn};
