@@ -5,30 +5,24 @@ use Rattle.problem.proofs.Stages.{refused_found, passed_nothing}
 use Rattle.problem.proofs.check_symbols.Statement.{statement}
 use Rattle.problem.proofs.check_symbols.Tie as tie
 
-first-bad-requires : tie.Need-first-bad-requires
-first-bad-requires c κs = search rules
-
-enum-known-k : tie.Need-enum-known-k
-enum-known-k c = search rules
-
-enum_told : tie.Need-enum-told
-enum_told c = search rules
-
-check-nodes-requires : tie.Need-check-nodes-requires
+check-nodes-requires : tie.Need-check_nodes-requires
 check-nodes-requires c κs =
-    let a = c.before.before.before.before in
-    let passed = passed_nothing a.args.problem.now 5 _ refl a.requires.1 c.before.before.first-bad.ensures in
-    (a.requires.0, passed c.enum_told.given.1)
+    let a = c.before.before.before in
+    let passed = passed_nothing a.args.problem.now 5 _ refl a.requires.1 c.first_bad.ensures in
+    (a.requires.0, passed c.in-Nothing.is)
 
-returns : tie.Need-returns
+returns : tie.Need-returns-in-At
 returns c =
-    let a = c.before.before.before.before.before in
-    refused_found _ 5 _ refl a.requires.1 c.before.before.before.first-bad.ensures c.before.k.given.1
-
-returns_2 : tie.Need-returns-2
-returns_2 c = search rules
+    let a = c.before.before.before in
+    refused_found _ 5 _ refl a.requires.1 c.first_bad.ensures c.in-At.is
 
 pub check_symbols_spec : {M : Type 1} → statement M
 check_symbols_spec =
     tie.close
-    (tie.spec first-bad-requires enum-known-k enum_told check-nodes-requires returns returns_2)
+    (tie.spec
+    (λ c κs. search rules)
+    (λ c. search rules)
+    (λ c. search rules)
+    check-nodes-requires
+    returns
+    (λ c. search rules))

@@ -4,31 +4,19 @@ use Rattle.problem.proofs.Stages.{head_refused, head_passed}
 use Rattle.problem.proofs.layout.Statement.{statement}
 use Rattle.problem.proofs.layout.Tie as tie
 
-read-head-requires : tie.Need-read-head-requires
-read-head-requires c κs = search rules
+check-symbols-requires : tie.Need-check_symbols-requires
+check-symbols-requires c κs = head_passed _ c.read_head.ensures c.in-Fine.is
 
-enum_known_refusal : tie.Need-enum-known-refusal
-enum_known_refusal c = search rules
-
-enum-known-header : tie.Need-enum-known-header
-enum-known-header c = search rules
-
-check-symbols-requires : tie.Need-check-symbols-requires
-check-symbols-requires c κs = head_passed _ c.before.before.before.read_head.ensures c.before.header.given.1
-
-returns : tie.Need-returns
-returns c = head_refused _ c.before.before.before.read_head.ensures c.before.refusal.given.1
-
-returns_2 : tie.Need-returns-2
-returns_2 c = search rules
+returns : tie.Need-returns-in-Bad
+returns c = head_refused _ c.read_head.ensures c.in-Bad.is
 
 pub layout_spec : {M : Type 1} → statement M
 layout_spec =
     tie.close
     (tie.spec
-    read-head-requires
-    enum_known_refusal
-    enum-known-header
+    (λ c κs. search rules)
+    (λ c. search rules)
+    (λ c. search rules)
     check-symbols-requires
     returns
-    returns_2)
+    (λ c. search rules))

@@ -11,53 +11,53 @@ use lib.Seq.{paste, paste-zero, paste-suc, length-paste, take_all}
 use Rattle.problem.proofs.bytes.put.Statement.{statement}
 use Rattle.problem.proofs.bytes.put.Tie as tie
 
-abbrev invariant_loop : tie.invariant-loop
+abbrev invariant_loop : tie.invariant-loop-i
 invariant_loop tail₀ bytes i₀ tail i = (tail ≡ paste tail₀ 0 bytes i) × (i ≤ length bytes)
 
-abbrev decreases_loop : tie.decreases-loop
+abbrev decreases_loop : tie.decreases-loop-i
 decreases_loop tail₀ bytes i₀ tail i = length bytes - i
 
-loop_holds : tie.Need-loop-init invariant_loop decreases_loop
+loop_holds : tie.Need-loop-i-init invariant_loop decreases_loop
 loop_holds c = (paste-zero c.args.tail.now 0 c.args.bytes.now, omega arith)
 
 -- the copy so far is as long as the tail
-kept : (c : tie.At-loop invariant_loop decreases_loop) → length c.loop.tail ≡ length c.before.args.tail.now
+kept : (c : tie.At-loop-i invariant_loop decreases_loop) → length c.loop-i.tail ≡ length c.args.tail.now
 kept c =
-    let s = c.before.args in
-    ap length c.loop.invariant.0 ∙ length-paste s.tail.now 0 s.bytes.now c.loop.i (omega arith) (omega arith)
+    let s = c.args in
+    ap length c.loop-i.invariant.0 ∙ length-paste s.tail.now 0 s.bytes.now c.loop-i.i (omega arith) (omega arith)
 
-shared-slice-read-tail : tie.Need-shared-slice-read-tail invariant_loop decreases_loop
+shared-slice-read-tail : tie.Need-bounds-bytes-i invariant_loop decreases_loop
 shared-slice-read-tail c = omega arith
 
-slice-write-tail : tie.Need-slice-write-tail invariant_loop decreases_loop
+slice-write-tail : tie.Need-bounds-tail-i invariant_loop decreases_loop
 slice-write-tail c = let k = kept c.before.before in omega arith
 
-add-i : tie.Need-overflow-add-i invariant_loop decreases_loop
+add-i : tie.Need-overflow_add-i invariant_loop decreases_loop
 add-i c = omega arith
 
-loop_less : tie.Need-loop-smaller invariant_loop decreases_loop
+loop_less : tie.Need-loop-i-smaller invariant_loop decreases_loop
 loop_less c = omega arith
 
-loop_again : tie.Need-loop-preserved invariant_loop decreases_loop
+loop_again : tie.Need-loop-i-preserved invariant_loop decreases_loop
 loop_again c =
-    let s = c.before.before.before.args in
-    let i = c.before.before.loop.i in
+    let s = c.args in
+    let i = c.loop-i.i in
     let b = get_or s.bytes.now i 0 in (
-      ap₂ {C = List ℕ} (λ x k. set x k b) c.before.before.loop.invariant.0 (sym (zero-add i))
+      ap₂ {C = List ℕ} (λ x k. set x k b) c.loop-i.invariant.0 (sym (zero-add i))
           ∙ paste-suc s.tail.now 0 s.bytes.now i 0 (omega arith) (omega arith)
           ∙ ap (paste s.tail.now 0 s.bytes.now) (sym (add-one i)),
       omega arith,
     )
 
-same_length : tie.Need-same-length invariant_loop decreases_loop
+same_length : tie.Need-shape_of-tail invariant_loop decreases_loop
 same_length c = kept c.before
 
 returns : tie.Need-returns invariant_loop decreases_loop
 returns c =
-    let s = c.before.before.args in
-    let i = c.before.loop.i in
+    let s = c.args in
+    let i = c.loop-i.i in
     let all : i ≡ length s.bytes.now = omega arith in
-    c.before.loop.invariant.0
+    c.loop-i.invariant.0
     ∙ ap₂ {C = List ℕ} (λ x k. x ++ drop k s.tail.now) (take_all i s.bytes.now (omega arith)) (zero-add i ∙ all)
 
 pub put_spec : {M : Type 1} → statement M

@@ -13,22 +13,20 @@ use Rattle.problem.proofs.head.last_node.Tie as tie
 counted : (s : List ℕ) → length (nodes_of s) ≡ node_count s
 counted s = length_nodes_at s (8 + symbol_count s) (node_count s)
 
-returns : tie.Need-returns
-returns c = search rules
-
-two-at-requires : tie.Need-two-at-requires
-two-at-requires c κs = search rules
-
-returns_2 : tie.Need-returns-2
+returns_2 : tie.Need-returns-then-nodes-eq0
 returns_2 c long =
-    omega (arith, counted c.before.before.before.before.args.s.now, c.before.two_at.ensures.0, c.if2.true)
+    omega (arith, counted c.args.s.now, c.two_at-nodes.ensures.0, c.if-nodes-eq0.true)
 
-sub-result : tie.Need-overflow-sub-result
-sub-result c = search rules
-
-returns_3 : tie.Need-returns-3
+returns_3 : tie.Need-returns
 returns_3 c long =
-    omega (arith, counted c.before.before.before.before.args.s.now, c.before.two_at.ensures.0)
+    omega (arith, counted c.args.s.now, c.two_at-nodes.ensures.0)
 
 pub last_node_spec : {M : Type 1} → statement M
-last_node_spec = tie.close (tie.spec returns two-at-requires returns_2 sub-result returns_3)
+last_node_spec =
+    tie.close
+    (tie.spec
+    (λ c. search rules)
+    (λ c κs. search rules)
+    returns_2
+    (λ c. search rules)
+    returns_3)

@@ -97,73 +97,34 @@ module _ (s : List ℕ) where
       let whole : length s ≡ 8 + symbol_count s + 8 * node_count s = omega arith in
       (h, passed_if s 4 _ refl (passed_4 k) (ap not (eq-eqb _ _ whole)))
 
-returns : tie.Need-returns
+returns : tie.Need-returns-then-s-lt8
 returns c = too_short _ (omega arith)
 
-shared-slice-read-if2 : tie.Need-shared-slice-read-if2
-shared-slice-read-if2 c = search rules
+returns_2 : tie.Need-returns-then-s
+returns_2 c = wrong_letter _ (omega arith) 0 (omega arith) c.if-s.true
 
-array-read-if2 : tie.Need-array-read-if2
-array-read-if2 c = search rules
+returns_3 : tie.Need-returns-then-s-2
+returns_3 c = wrong_letter _ (omega arith) 1 (omega arith) c.if-s-2.true
 
-returns_2 : tie.Need-returns-2
-returns_2 c = wrong_letter _ (omega arith) 0 (omega arith) c.if2.true
+returns_4 : tie.Need-returns-then-s-3
+returns_4 c = wrong_letter _ (omega arith) 2 (omega arith) c.if-s-3.true
 
-shared-slice-read-if3 : tie.Need-shared-slice-read-if3
-shared-slice-read-if3 c = search rules
-
-array-read-if3 : tie.Need-array-read-if3
-array-read-if3 c = search rules
-
-returns_3 : tie.Need-returns-3
-returns_3 c = wrong_letter _ (omega arith) 1 (omega arith) c.if3.true
-
-shared-slice-read-if4 : tie.Need-shared-slice-read-if4
-shared-slice-read-if4 c = search rules
-
-array-read-if4 : tie.Need-array-read-if4
-array-read-if4 c = search rules
-
-returns_4 : tie.Need-returns-4
-returns_4 c = wrong_letter _ (omega arith) 2 (omega arith) c.if4.true
-
-two-at-requires : tie.Need-two-at-requires
-two-at-requires c κs = search rules
-
-returns_5 : tie.Need-returns-5
+returns_5 : tie.Need-returns-then-two_at-ne1
 returns_5 c = wrong_version _ (omega arith) (omega arith)
 
-shared-slice-read-wide : tie.Need-shared-slice-read-wide
-shared-slice-read-wide c = search rules
-
-wide-requires : tie.Need-wide-requires
-wide-requires c κs = search rules
-
-two-at-requires-2 : tie.Need-two-at-requires-2
-two-at-requires-2 c κs = search rules
-
-returns_6 : tie.Need-returns-6
+returns_6 : tie.Need-returns-then-symbols-gt32
 returns_6 c = wrong_counts _ (omega arith) (inl (omega arith))
 
-returns-7 : tie.Need-returns-7
+returns-7 : tie.Need-returns-then-nodes-eq0
 returns-7 c = wrong_counts _ (omega arith) (inr (inl (omega arith)))
 
-returns-8 : tie.Need-returns-8
+returns-8 : tie.Need-returns-then-nodes-gt256
 returns-8 c = wrong_counts _ (omega arith) (inr (inr (omega arith)))
 
-add-if9 : tie.Need-overflow-add-if9
-add-if9 c = search rules
-
-mul-if9 : tie.Need-overflow-mul-if9
-mul-if9 c = search rules
-
-add-if9-2 : tie.Need-overflow-add-if9-2
-add-if9-2 c = search rules
-
-returns-9 : tie.Need-returns-9
+returns-9 : tie.Need-returns-then-s-symbols
 returns-9 c = wrong_length _ (omega arith) (omega arith)
 
-returns-10 : tie.Need-returns-10
+returns-10 : tie.Need-returns
 returns-10 c = fine _ (omega arith) (omega arith)
 
 pub read_head_spec : {M : Type 1} → statement M
@@ -171,25 +132,25 @@ read_head_spec =
     tie.close
     (tie.spec
     returns
-    shared-slice-read-if2
-    array-read-if2
+    (λ c. search rules)
+    (λ c. search rules)
     returns_2
-    shared-slice-read-if3
-    array-read-if3
+    (λ c. search rules)
+    (λ c. search rules)
     returns_3
-    shared-slice-read-if4
-    array-read-if4
+    (λ c. search rules)
+    (λ c. search rules)
     returns_4
-    two-at-requires
+    (λ c κs. search rules)
     returns_5
-    shared-slice-read-wide
-    wide-requires
-    two-at-requires-2
+    (λ c. search rules)
+    (λ c κs. search rules)
+    (λ c κs. search rules)
     returns_6
     returns-7
     returns-8
-    add-if9
-    mul-if9
-    add-if9-2
+    (λ c. search rules)
+    (λ c. search rules)
+    (λ c. search rules)
     returns-9
     returns-10)

@@ -14,56 +14,53 @@ use Rattle.theorems.proofs.Laws.Scans.{wrong_from, wrong_here, wrong_later, wron
 use Rattle.problem.proofs.nodes.first_wrong.Statement.{statement}
 use Rattle.problem.proofs.nodes.first_wrong.Tie as tie
 
-abbrev invariant_loop : tie.invariant-loop
+abbrev invariant_loop : tie.invariant-loop-k
 invariant_loop s header k₀ k =
     (k ≤ header.nodes) × (wrong_from (symbols_of s) (nodes_of s) k ≡ first_wrong (symbols_of s) [] (nodes_of s))
 
-abbrev decreases_loop : tie.decreases-loop
+abbrev decreases_loop : tie.decreases-loop-k
 decreases_loop s header k₀ k = header.nodes - k
 
-loop_holds : tie.Need-loop-init invariant_loop decreases_loop
+loop_holds : tie.Need-loop-k-init invariant_loop decreases_loop
 loop_holds c = (omega arith, refl)
 
-node-right-requires : tie.Need-node-right-requires invariant_loop decreases_loop
-node-right-requires c κs = search rules
-
 -- at the loop's head: the symbol bytes, and the nodes, as many as the header says
-module _ (c : tie.At-loop invariant_loop decreases_loop) where
+module _ (c : tie.At-loop-k invariant_loop decreases_loop) where
   abbrev symbol_bytes : List ℕ
-  symbol_bytes = symbols_of c.before.before.args.s.now
+  symbol_bytes = symbols_of c.args.s.now
 
   abbrev table : List Node
-  table = nodes_of c.before.before.args.s.now
+  table = nodes_of c.args.s.now
 
-  count : length table ≡ c.before.before.args.header.nodes
-  count = length_nodes_of c.before.before.requires
+  count : length table ≡ c.args.header.nodes
+  count = length_nodes_of c.requires
 
-returns : tie.Need-returns invariant_loop decreases_loop
+returns : tie.Need-returns-then-not-node_right invariant_loop decreases_loop
 returns c =
     let head = c.before.before.before.before in
     sym
-    (wrong_here (symbol_bytes head) (table head) head.loop.k (omega (arith, count head))
-    (rw (← c.before.node-right.ensures) (not-true _ c.if2.true)))
-    ∙ head.loop.invariant.1
+    (wrong_here (symbol_bytes head) (table head) head.loop-k.k (omega (arith, count head))
+    (rw (← c.node_right.ensures) (c.if-not-node_right.true)))
+    ∙ head.loop-k.invariant.1
 
-add-k : tie.Need-overflow-add-k invariant_loop decreases_loop
+add-k : tie.Need-overflow_add-k invariant_loop decreases_loop
 add-k c = omega arith
 
-loop_less : tie.Need-loop-smaller invariant_loop decreases_loop
+loop_less : tie.Need-loop-k-smaller invariant_loop decreases_loop
 loop_less c = omega arith
 
-loop_again : tie.Need-loop-preserved invariant_loop decreases_loop
+loop_again : tie.Need-loop-k-preserved invariant_loop decreases_loop
 loop_again c =
     let head = c.before.before.before.before in
     let later =
-    wrong_later (symbol_bytes head) (table head) head.loop.k (omega (arith, count head))
-    (rw (← c.before.node-right.ensures) (not-false _ c.if2.false)) in
-    (omega arith, sym later ∙ head.loop.invariant.1)
+    wrong_later (symbol_bytes head) (table head) head.loop-k.k (omega (arith, count head))
+    (rw (← c.node_right.ensures) (c.if-not-node_right.false)) in
+    (omega arith, sym later ∙ head.loop-k.invariant.1)
 
-returns_2 : tie.Need-returns-2 invariant_loop decreases_loop
+returns_2 : tie.Need-returns invariant_loop decreases_loop
 returns_2 c =
     let head = c.before.before in
-    sym (wrong_nowhere (symbol_bytes head) (table head) head.loop.k (omega (arith, count head))) ∙ head.loop.invariant.1
+    sym (wrong_nowhere (symbol_bytes head) (table head) head.loop-k.k (omega (arith, count head))) ∙ head.loop-k.invariant.1
 
 pub first_wrong_spec : {M : Type 1} → statement M
 first_wrong_spec =
@@ -72,7 +69,7 @@ first_wrong_spec =
     invariant_loop
     decreases_loop
     loop_holds
-    node-right-requires
+    (λ c κs. search rules)
     returns
     add-k
     loop_less

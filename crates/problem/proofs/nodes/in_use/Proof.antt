@@ -43,43 +43,35 @@ none_used (suc (suc (suc (suc (suc (suc (suc (suc zero)))))))) ar h q = refl
 none_used (suc (suc (suc (suc (suc (suc (suc (suc (suc zero))))))))) ar h q = absurd (q refl)
 none_used (suc (suc (suc (suc (suc (suc (suc (suc (suc (suc op)))))))))) ar h q = refl
 
-returns : tie.Need-returns
-returns c = sym (app_used _ _ c.match.keys1)
+returns : tie.Need-returns-in-0
+returns c = sym (app_used _ _ c.in-0.is)
 
-returns_2 : tie.Need-returns-2
-returns_2 c = sym (choice_used _ _ c.match.keys2)
+returns_2 : tie.Need-returns-in-1
+returns_2 c = sym (choice_used _ _ c.in-1.is)
 
-returns_3 : tie.Need-returns-3
-returns_3 c = search rules
-
--- past the other arms
-module _ (c : tie.At-match-rest) where
-  abbrev op : ℕ
-  op = c.before.args.op
-
-  not_app : ((op ≡ 0) ⊎ (op ≡ 6)) → ⊥
-  not_app = c.match.rest.0.0.0.1
-
-  not_choice : ((op ≡ 1) ⊎ (op ≡ 9)) → ⊥
-  not_choice = c.match.rest.0.0.1
-
-returns_4 : tie.Need-returns-4
+returns_4 : tie.Need-returns-in_default
 returns_4 c =
-    let m = c.before in
-    let not-six : op m ≡ 6 → ⊥ = λ e. not_app m (inr e) in
-    sym (none_used _ _ (omega arith) (λ e. not_choice m (inr e)))
+    let rest = c.in_default.in_default-own.rest in
+    let not_six : c.args.op ≡ 6 → ⊥ = λ e. rest.0.0.0.1 (inr e) in
+    sym (none_used _ _ (omega arith) (λ e. rest.0.0.1 (inr e)))
 
-returns_5 : tie.Need-returns-5
-returns_5 c = search rules
-
-returns_6 : tie.Need-returns-6
+returns_6 : tie.Need-returns-in-2-2
 returns_6 c =
-    let m = c.before in
-    let not-0 : op m ≡ 0 → ⊥ = λ e. not_app m (inl e) in
-    let not-1 : op m ≡ 1 → ⊥ = λ e. not_choice m (inl e) in
-    let not-2 : op m ≡ 2 → ⊥ = m.match.rest.0.1 in
-    let not-3 : op m ≡ 3 → ⊥ = m.match.rest.1 in
-    sym (other_used _ _ (omega arith) c.if1.true)
+    let rest = c.in-2.in_default-own.rest in
+    let op = c.args.op in
+    let not_0 : op ≡ 0 → ⊥ = λ e. rest.0.0.0.1 (inl e) in
+    let not_1 : op ≡ 1 → ⊥ = λ e. rest.0.0.1 (inl e) in
+    let not_2 : op ≡ 2 → ⊥ = rest.0.1 in
+    let not_3 : op ≡ 3 → ⊥ = rest.1 in
+    sym (other_used _ _ (omega arith) c.in-2.if-op-lt6-own.true)
 
-pub in-use-spec : {M : Type 1} → statement M
-in-use-spec = tie.close (tie.spec returns returns_2 returns_3 returns_4 returns_5 returns_6)
+pub in_use_spec : {M : Type 1} → statement M
+in_use_spec =
+    tie.close
+    (tie.spec
+    returns
+    returns_2
+    (λ c. search rules)
+    returns_4
+    (λ c. search rules)
+    returns_6)

@@ -4,16 +4,15 @@ use Rattle.problem.proofs.NodeLaws.{node_stands, term_op}
 use Rattle.problem.proofs.nodes.is_term.Statement.{statement}
 use Rattle.problem.proofs.nodes.is_term.Tie as tie
 
-node-at-requires : tie.Need-node-at-requires
-node-at-requires c κs = search rules
-
-shared-slice-read-result : tie.Need-shared-slice-read-result
-shared-slice-read-result c = search rules
-
 returns : tie.Need-returns
 returns c =
-    let pre = c.before.before.before.requires in
-    rw (node_stands pre.0 _ _ c.before.Node-at.ensures pre.1, term_op)
+    let pre = c.requires in
+    rw (node_stands pre.0 _ _ c.node_at.ensures pre.1, term_op)
 
 pub is_term_spec : {M : Type 1} → statement M
-is_term_spec = tie.close (tie.spec node-at-requires shared-slice-read-result returns)
+is_term_spec =
+    tie.close
+    (tie.spec
+    (λ c κs. search rules)
+    (λ c. search rules)
+    returns)

@@ -14,91 +14,79 @@ use Rattle.problem.specs.Stages.{found_of}
 use Rattle.problem.proofs.NodeLaws.{node_stands, length_nodes_of}
 use Rattle.problem.proofs.Scans.{distinct_from, distinct_other, distinct_first, distinct_repeat, distinct_end}
 use Rattle.problem.proofs.repeats.distinct.Statement.{statement}
+use Rattle.problem.proofs.repeats.distinct.Lts.{then-s-node_at+in-Nothing, then-s-node_at+in_default, else-s-node_at}
 use Rattle.problem.proofs.repeats.distinct.Tie as tie
 
-abbrev invariant_loop : tie.invariant-loop
+abbrev invariant_loop : tie.invariant-loop-k
 invariant_loop s header op count₀ k₀ count k =
     (k ≤ header.nodes) × (count ≤ k) × (count + distinct_from op (nodes_of s) k ≡ length (distinct op [] (nodes_of s)))
 
-abbrev decreases_loop : tie.decreases-loop
+abbrev decreases_loop : tie.decreases-loop-k
 decreases_loop s header op count₀ k₀ count k = header.nodes - k
 
-loop_holds : tie.Need-loop-init invariant_loop decreases_loop
+loop_holds : tie.Need-loop-k-init invariant_loop decreases_loop
 loop_holds c = omega arith
 
-node-at-requires : tie.Need-node-at-requires invariant_loop decreases_loop
-node-at-requires c κs = search rules
-
-shared-slice-read-if2 : tie.Need-shared-slice-read-if2 invariant_loop decreases_loop
+shared-slice-read-if2 : tie.Need-bounds-s-node_at invariant_loop decreases_loop
 shared-slice-read-if2 c = omega arith
 
-earliest-requires : tie.Need-earliest-requires invariant_loop decreases_loop
-earliest-requires c κs = search rules
-
-enum_told : tie.Need-enum-told invariant_loop decreases_loop
-enum_told c = search rules
-
-add-count : tie.Need-overflow-add-count invariant_loop decreases_loop
+add-count : tie.Need-overflow_add-count invariant_loop decreases_loop
 add-count c = omega arith
 
-enum_told_2 : tie.Need-enum-told-2 invariant_loop decreases_loop
-enum_told_2 c = search rules
-
-add-k : tie.Need-overflow-add-k invariant_loop decreases_loop
+add-k : tie.Need-overflow_add-k invariant_loop decreases_loop
 add-k c = omega arith
 
-loop_less : tie.Need-loop-smaller invariant_loop decreases_loop
+loop_less : tie.Need-loop-k-smaller invariant_loop decreases_loop
 loop_less c = omega arith
 
 -- at the loop's head: the nodes, as many as the header says
-module _ (c : tie.At-loop invariant_loop decreases_loop) where
+module _ (c : tie.At-loop-k invariant_loop decreases_loop) where
   abbrev op : ℕ
-  op = c.before.before.args.op
+  op = c.args.op
 
   abbrev table : List Node
-  table = nodes_of c.before.before.args.s.now
+  table = nodes_of c.args.s.now
 
-  count_nodes : length table ≡ c.before.before.args.header.nodes
-  count_nodes = length_nodes_of c.before.before.requires
+  count_nodes : length table ≡ c.args.header.nodes
+  count_nodes = length_nodes_of c.requires
 
 -- in a turn: node k is one of them, and its op is read
-module _ (c : tie.After-shared-slice-known2 invariant_loop decreases_loop) where
-  abbrev head : tie.At-loop invariant_loop decreases_loop
+module _ (c : tie.After-shared_slice_known-in-loop-k-1 invariant_loop decreases_loop) where
+  abbrev head : tie.At-loop-k invariant_loop decreases_loop
   head = c.before.before.before.before
 
-  k_among : head.loop.k < length (table head)
+  k_among : head.loop-k.k < length (table head)
   k_among = omega (arith, count_nodes head)
 
-  op_read : (node (table head) head.loop.k).op ≡ byte_at head.before.before.args.s.now c.before.Node-at.result
+  op_read : (node (table head) head.loop-k.k).op ≡ byte_at head.args.s.now c.node_at.result
   op_read =
       ap (λ (n : Node). n.op)
-      (node_stands head.before.before.pre _ _ c.before.Node-at.ensures c.before.before.if1.true)
+      (node_stands head.requires _ _ c.node_at.ensures c.loop-k-test.true)
 
-loop_again : tie.Need-loop-preserved invariant_loop decreases_loop
+loop_again : tie.Need-loop-k-preserved invariant_loop decreases_loop
 loop_again c =
     let at = head c.before in
-    let k = at.loop.k in
+    let k = at.loop-k.k in
     let h = k_among c.before in
-    ⊎_elim
-    (λ w.
-    let found = sym w.1.ensures ∙ ap found_of w.3.given.1 in
-    let left = distinct_first (op at) (table at) k h (op_read c.before ∙ w.0.taken) found in
-    omega arith)
-    (⊎_elim
-    (λ w.
-    let found = sym w.1.ensures ∙ ap found_of w.3.given.1 in
-    let left = distinct_repeat (op at) (table at) k h _ found in
-    omega arith)
-    (λ w.
-    let left = distinct_other (op at) (table at) k h (λ e. w.0.left (sym (op_read c.before) ∙ e)) in
-    omega arith))
-    c.if2.branch
+    elim c.if-s-node_at.branch [
+      | then-s-node_at+in-Nothing w ↦
+          let found = sym w.earliest.ensures ∙ ap found_of w.in-Nothing.is in
+          let left = distinct_first (op at) (table at) k h (op_read c.before ∙ w.if-s-node_at.true) found in
+          omega arith
+      | then-s-node_at+in_default w ↦
+          let found = sym w.earliest.ensures ∙ ap found_of w.in_default.is in
+          let left = distinct_repeat (op at) (table at) k h _ found in
+          omega arith
+      | else-s-node_at w ↦
+          let left = distinct_other (op at) (table at) k h (λ e. w.if-s-node_at.false (sym (op_read c.before) ∙ e)) in
+          omega arith
+    ]
 
 returns : tie.Need-returns invariant_loop decreases_loop
 returns c =
     let at = c.before.before in
-    let past : length (table at) ≤ at.loop.k = omega (arith, count_nodes at) in
-    omega (arith, distinct_end (op at) (table at) at.loop.k past)
+    let past : length (table at) ≤ at.loop-k.k = omega (arith, count_nodes at) in
+    omega (arith, distinct_end (op at) (table at) at.loop-k.k past)
 
 pub distinct_spec : {M : Type 1} → statement M
 distinct_spec =
@@ -107,12 +95,12 @@ distinct_spec =
     invariant_loop
     decreases_loop
     loop_holds
-    node-at-requires
+    (λ c κs. search rules)
     shared-slice-read-if2
-    earliest-requires
-    enum_told
+    (λ c κs. search rules)
+    (λ c. search rules)
     add-count
-    enum_told_2
+    (λ c. search rules)
     add-k
     loop_less
     loop_again

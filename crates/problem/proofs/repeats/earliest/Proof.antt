@@ -24,10 +24,7 @@ decreases-scan s header k j₀ j = k - j
 scan-holds : tie.Need-scan-init invariant-scan decreases-scan
 scan-holds c = (omega arith, refl)
 
-same-nodes-requires : tie.Need-same-nodes-requires invariant-scan decreases-scan
-same-nodes-requires c κs = search rules
-
-add-j : tie.Need-overflow-add-j invariant-scan decreases-scan
+add-j : tie.Need-overflow_add-j invariant-scan decreases-scan
 add-j c = omega arith
 
 scan-less : tie.Need-scan-smaller invariant-scan decreases-scan
@@ -36,30 +33,30 @@ scan-less c = omega arith
 -- at the scan's head: the nodes, and that node k is one of them
 module _ (c : tie.At-scan invariant-scan decreases-scan) where
   abbrev table : List Node
-  table = nodes_of c.before.before.args.s.now
+  table = nodes_of c.args.s.now
 
-  k_among : c.before.before.args.k ≤ length table
-  k_among = omega (arith, length_nodes_of c.before.before.requires.0)
+  k_among : c.args.k ≤ length table
+  k_among = omega (arith, length_nodes_of c.requires.0)
 
 scan-again : tie.Need-scan-preserved invariant-scan decreases-scan
 scan-again c =
     let head = c.before.before.before in
     let later =
     same_later (table head) _ (k_among head) head.scan.j (omega arith)
-    (rw (← c.before.same_nodes.ensures) c.if2.false) in
+    (rw (← c.same_nodes.ensures) c.if-same_nodes.false) in
     (omega arith, sym later ∙ head.scan.invariant.1)
 
-returns : tie.Need-returns invariant-scan decreases-scan
+returns : tie.Need-returns-then-j-k invariant-scan decreases-scan
 returns c =
     let head = c.before in
-    sym (same_nowhere (table head) _ (k_among head)) ∙ rw c.if1.true at head.scan.invariant.1
+    sym (same_nowhere (table head) _ (k_among head)) ∙ rw c.if-j-k.true at head.scan.invariant.1
 
-returns_2 : tie.Need-returns-2 invariant-scan decreases-scan
+returns_2 : tie.Need-returns-then-same_nodes invariant-scan decreases-scan
 returns_2 c =
     let head = c.before.before.before in
     sym
     (same_here (table head) _ (k_among head) head.scan.j (omega arith)
-    (rw (← c.before.same_nodes.ensures) c.if2.true))
+    (rw (← c.same_nodes.ensures) c.if-same_nodes.true))
     ∙ head.scan.invariant.1
 
 pub earliest_spec : {M : Type 1} → statement M
@@ -69,7 +66,7 @@ earliest_spec =
     invariant-scan
     decreases-scan
     scan-holds
-    same-nodes-requires
+    (λ c κs. search rules)
     add-j
     scan-less
     scan-again

@@ -46,42 +46,42 @@ module _ {s : List ℕ} {header : Header} {k : ℕ} (g : Searching s header k) w
         let next = fails_later symbol_byte_right (symbols_of s) 0 k inside (tested ∙ e) in
         record { shaped = g.shaped; within = omega arith; same = sym next ∙ g.same }
 
-abbrev invariant_loop : tie.invariant-loop
+abbrev invariant_loop : tie.invariant-loop-k
 invariant_loop s header k₀ k = Searching s header k
 
-abbrev decreases_loop : tie.decreases-loop
+abbrev decreases_loop : tie.decreases-loop-k
 decreases_loop s header k₀ k = header.symbols - k
 
-loop_holds : tie.Need-loop-init invariant_loop decreases_loop
-loop_holds c = record { shaped = c.before.requires; within = omega arith; same = refl }
+loop_holds : tie.Need-loop-k-init invariant_loop decreases_loop
+loop_holds c = record { shaped = c.requires; within = omega arith; same = refl }
 
-add-byte-right : tie.Need-overflow-add-byte-right invariant_loop decreases_loop
+add-byte-right : tie.Need-overflow_add-k invariant_loop decreases_loop
 add-byte-right c = omega arith
 
-shared-slice-read-byte-right : tie.Need-shared-slice-read-byte-right invariant_loop decreases_loop
+shared-slice-read-byte-right : tie.Need-bounds-s-k invariant_loop decreases_loop
 shared-slice-read-byte-right c = omega arith
 
-byte-right-requires : tie.Need-byte-right-requires invariant_loop decreases_loop
+byte-right-requires : tie.Need-byte_right-requires invariant_loop decreases_loop
 byte-right-requires c κs = tt
 
-returns : tie.Need-returns invariant_loop decreases_loop
+returns : tie.Need-returns-then-not-byte_right invariant_loop decreases_loop
 returns c =
-    finds c.before.before.before.before.before.loop.invariant (omega arith)
-    (sym c.before.byte-right.ensures ∙ not-true _ c.if2.true)
+    finds c.loop-k.invariant (omega arith)
+    (sym c.byte_right.ensures ∙ c.if-not-byte_right.true)
 
-add-k : tie.Need-overflow-add-k invariant_loop decreases_loop
+add-k : tie.Need-overflow_add-k-in-loop-k invariant_loop decreases_loop
 add-k c = omega arith
 
-loop_less : tie.Need-loop-smaller invariant_loop decreases_loop
+loop_less : tie.Need-loop-k-smaller invariant_loop decreases_loop
 loop_less c = omega arith
 
-loop_again : tie.Need-loop-preserved invariant_loop decreases_loop
+loop_again : tie.Need-loop-k-preserved invariant_loop decreases_loop
 loop_again c =
-    passes c.before.before.before.before.before.loop.invariant (omega arith)
-    (sym c.before.byte-right.ensures ∙ not-false _ c.if2.false)
+    passes c.loop-k.invariant (omega arith)
+    (sym c.byte_right.ensures ∙ c.if-not-byte_right.false)
 
-returns_2 : tie.Need-returns-2 invariant_loop decreases_loop
-returns_2 c = finds_nothing c.before.before.loop.invariant (omega arith)
+returns_2 : tie.Need-returns invariant_loop decreases_loop
+returns_2 c = finds_nothing c.loop-k.invariant (omega arith)
 
 pub first_bad_spec : {M : Type 1} → statement M
 first_bad_spec =
