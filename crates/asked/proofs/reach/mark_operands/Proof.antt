@@ -12,76 +12,67 @@ use Rattle.asked.proofs.Marking.{mark_one}
 use Rattle.asked.proofs.reach.mark_operands.Statement.{statement}
 use Rattle.asked.proofs.reach.mark_operands.Tie as tie
 
-abbrev invariant_loop : tie.invariant-loop
+abbrev invariant_loop : tie.invariant-loop-j
 invariant_loop problem k marks₀ fields used j₀ marks j =
     (j ≤ used) × Marked (take j (operands_at problem k)) marks₀ marks × (length marks ≡ 256)
 
-abbrev decreases_loop : tie.decreases-loop
+abbrev decreases_loop : tie.decreases-loop-j
 decreases_loop problem k marks₀ fields used j₀ marks j = used - j
 
-node-at-requires : tie.Need-node-at-requires invariant_loop decreases_loop
-node-at-requires c κs = search rules
+loop_holds : tie.Need-loop-j-init invariant_loop decreases_loop
+loop_holds c = (omega arith, λ j h. refl, c.requires.3)
 
-add-fields : tie.Need-overflow-add-fields invariant_loop decreases_loop
-add-fields c = search rules
+mul-two-at : tie.Need-overflow_mul-j invariant_loop decreases_loop
+mul-two-at c = let few = c.uses-used.ensures.1 in omega arith
 
-uses-requires : tie.Need-uses-requires invariant_loop decreases_loop
-uses-requires c κs = search rules
+add-two-at : tie.Need-overflow_add-fields-in-loop-j invariant_loop decreases_loop
+add-two-at c = let few = c.uses-used.ensures.1 in omega (arith, c.node_at-fields.ensures)
 
-loop_holds : tie.Need-loop-init invariant_loop decreases_loop
-loop_holds c = (omega arith, λ j h. refl, c.before.before.before.before.requires.3)
-
-mul-two-at : tie.Need-overflow-mul-two-at invariant_loop decreases_loop
-mul-two-at c = let few = c.before.before.uses.ensures.1 in omega arith
-
-add-two-at : tie.Need-overflow-add-two-at invariant_loop decreases_loop
-add-two-at c = let few = c.before.before.uses.ensures.1 in omega (arith, c.before.before.before.Node-at.ensures)
-
-two-at-requires : tie.Need-two-at-requires invariant_loop decreases_loop
+two-at-requires : tie.Need-two_at-requires invariant_loop decreases_loop
 two-at-requires c κs =
     let s = c.before.before.before.before.before.before in
-    let few = c.before.before.uses.ensures.1 in
-    omega (arith, c.before.before.before.Node-at.ensures, s.requires.0.whole, s.requires.0.few_symbols, s.requires.0.few_nodes)
+    let few = c.uses-used.ensures.1 in
+    omega (arith, c.node_at-fields.ensures, s.requires.0.whole, s.requires.0.few_symbols, s.requires.0.few_nodes)
 
 -- operand j, where two_at reads it
-module _ (c : tie.After-two-at invariant_loop decreases_loop) where
+module _ (c : tie.After-two_at invariant_loop decreases_loop) where
   abbrev start : tie.Start invariant_loop decreases_loop
   start = c.before.before.before.before.before.before.before
 
   abbrev ops : List ℕ
   ops = operands_at start.args.problem.now start.args.k
 
-  in_use : c.before.before.loop.j < length ops
-  in_use = omega (arith, c.before.before.before.uses.ensures.0)
+  in_use : c.loop-j.j < length ops
+  in_use = omega (arith, c.uses-used.ensures.0)
 
-  operand_is : c.two_at.result ≡ get_or ops c.before.before.loop.j 0
+  operand_is : c.two_at.result ≡ get_or ops c.loop-j.j 0
   operand_is =
-      let p = start.pre in
+      let p = start.requires in
       c.two_at.ensures.0
-      ∙ sym (operand_stands p.0 p.1 _ p.2 c.before.before.loop.j _ c.before.before.before.before.Node-at.ensures in_use)
+      ∙ sym (operand_stands p.0 p.1 _ p.2 c.loop-j.j _ c.node_at-fields.ensures in_use)
 
   operand_small : c.two_at.result < 256
   operand_small =
-      let p = start.pre in
-      let e = operand_earlier p.0 p.1 _ p.2 c.before.before.loop.j in_use in
+      let p = start.requires in
+      let e = operand_earlier p.0 p.1 _ p.2 c.loop-j.j in_use in
       let is = operand_is in
       omega (arith, p.0.few_nodes, p.2)
 
-slice-write-marks : tie.Need-slice-write-marks invariant_loop decreases_loop
+slice-write-marks : tie.Need-bounds-marks-two_at invariant_loop decreases_loop
 slice-write-marks c =
     let b = operand_small c in
-    let long = c.before.before.loop.invariant.2 in
+    let long = c.loop-j.invariant.2 in
     omega arith
 
-add-j : tie.Need-overflow-add-j invariant_loop decreases_loop
-add-j c = let few = c.before.before.before.uses.ensures.1 in omega arith
+add-j : tie.Need-overflow_add-j invariant_loop decreases_loop
+add-j c = let few = c.uses-used.ensures.1 in omega arith
 
-loop_less : tie.Need-loop-smaller invariant_loop decreases_loop
+loop_less : tie.Need-loop-j-smaller invariant_loop decreases_loop
 loop_less c = omega arith
 
-loop_again : tie.Need-loop-preserved invariant_loop decreases_loop
+loop_again : tie.Need-loop-j-preserved invariant_loop decreases_loop
 loop_again c =
-    let l = c.before.before.loop in
+    let l = c.loop-j in
     let s = c.before.before.before.before.before.before.before in
     let ops = operands_at s.args.problem.now s.args.k in
     let is = operand_is c in
@@ -93,15 +84,15 @@ loop_again c =
       length-set l.marks _ 1 ∙ long,
     )
 
-same_length : tie.Need-same-length invariant_loop decreases_loop
-same_length c = c.before.loop.invariant.2 ∙ sym c.before.before.before.before.before.before.requires.3
+same_length : tie.Need-shape_of-marks invariant_loop decreases_loop
+same_length c = c.loop-j.invariant.2 ∙ sym c.requires.3
 
 returns : tie.Need-returns invariant_loop decreases_loop
 returns c =
-    let l = c.before.loop in
+    let l = c.loop-j in
     let s = c.before.before.before.before.before.before in
     let ops = operands_at s.args.problem.now s.args.k in
-    let all : take l.j ops ≡ ops = take_all l.j ops (omega (arith, c.before.before.uses.ensures.0, l.invariant.0)) in
+    let all : take l.j ops ≡ ops = take_all l.j ops (omega (arith, c.uses-used.ensures.0, l.invariant.0)) in
     subst (λ (these : List ℕ). Marked these s.args.marks.now l.marks) all l.invariant.1
 
 pub mark_operands_spec : {M : Type 1} → statement M
@@ -110,9 +101,9 @@ mark_operands_spec =
     (tie.spec
     invariant_loop
     decreases_loop
-    node-at-requires
-    add-fields
-    uses-requires
+    (λ c κs. search rules)
+    (λ c. search rules)
+    (λ c κs. search rules)
     loop_holds
     mul-two-at
     add-two-at

@@ -7,80 +7,80 @@ use Rattle.asked.proofs.Walking.{Walking, walk_begins, walk_marked, walk_passed,
 use Rattle.asked.proofs.reach.reach.Statement.{statement}
 use Rattle.asked.proofs.reach.reach.Tie as tie
 
-abbrev invariant_loop : tie.invariant-loop
+abbrev invariant_loop : tie.invariant-loop-k
 invariant_loop root problem header marks₀ count₀ k₀ marks count k = (count + k ≤ root + 1) × Walking problem root marks count k
 
-abbrev decreases_loop : tie.decreases-loop
+abbrev decreases_loop : tie.decreases-loop-k
 decreases_loop root problem header marks₀ count₀ k₀ marks count k = k
 
-slice-write-marks : tie.Need-slice-write-marks invariant_loop decreases_loop
+slice-write-marks : tie.Need-bounds-marks-root invariant_loop decreases_loop
 slice-write-marks c =
-    let p = c.before.before.requires in
+    let p = c.requires in
     omega (arith, p.0.few_nodes, p.2, ap length p.3 ∙ length-replicate {A = ℕ} 256 0)
 
-add-k : tie.Need-overflow-add-k invariant_loop decreases_loop
-add-k c = let p = c.before.before.requires in omega (arith, p.0.few_nodes, p.2)
+add-k : tie.Need-overflow_add-k invariant_loop decreases_loop
+add-k c = let p = c.requires in omega (arith, p.0.few_nodes, p.2)
 
-loop_holds : tie.Need-loop-init invariant_loop decreases_loop
-loop_holds c = let p = c.before.before.requires in (omega arith, walk_begins p.0 p.1 _ p.2 _ p.3)
+loop_holds : tie.Need-loop-k-init invariant_loop decreases_loop
+loop_holds c = let p = c.requires in (omega arith, walk_begins p.0 p.1 _ p.2 _ p.3)
 
-sub-k : tie.Need-overflow-sub-k invariant_loop decreases_loop
+sub-k : tie.Need-overflow_sub-k invariant_loop decreases_loop
 sub-k c = omega arith
 
-slice-read-if1 : tie.Need-slice-read-if1 invariant_loop decreases_loop
+slice-read-if1 : tie.Need-bounds-marks-k invariant_loop decreases_loop
 slice-read-if1 c =
-    let v = c.before.before.loop.invariant.1 in
-    let p = c.before.before.before.before.before.requires in
+    let v = c.loop-k.invariant.1 in
+    let p = c.requires in
     omega (arith, v.within, v.long, p.0.few_nodes, p.2)
 
-add-count : tie.Need-overflow-add-count invariant_loop decreases_loop
+add-count : tie.Need-overflow_add-count invariant_loop decreases_loop
 add-count c =
-    let p = c.before.before.before.before.before.before.requires in
-    omega (arith, c.before.before.before.loop.invariant.0, p.0.few_nodes, p.2)
+    let p = c.requires in
+    omega (arith, c.loop-k.invariant.0, p.0.few_nodes, p.2)
 
-mark-operands-requires : tie.Need-mark-operands-requires invariant_loop decreases_loop
+mark-operands-requires : tie.Need-mark_operands-requires invariant_loop decreases_loop
 mark-operands-requires c κs =
-    let v = c.before.before.before.before.loop.invariant.1 in
-    let p = c.before.before.before.before.before.before.before.requires in
+    let v = c.loop-k.invariant.1 in
+    let p = c.requires in
     (p.0, p.1, omega (arith, v.within, p.2), v.long)
 
-loop_less : tie.Need-loop-smaller invariant_loop decreases_loop
+loop_less : tie.Need-loop-k-smaller-then-marks-k-eq1 invariant_loop decreases_loop
 loop_less c = omega arith
 
-loop_again : tie.Need-loop-preserved invariant_loop decreases_loop
+loop_again : tie.Need-loop-k-preserved-then-marks-k-eq1 invariant_loop decreases_loop
 loop_again c =
-    let l = c.before.before.before.before.before.before.before.loop in
-    let p = c.before.before.before.before.before.before.before.before.before.before.requires in
-    let kept = c.before.before.mark-operands.auto.1.1.1.0 in
+    let l = c.loop-k in
+    let p = c.requires in
+    let kept = c.mark_operands.auto.marks in
     let k : ℕ = l.k - 1 in
     let up : l.k ≡ suc k = omega arith in
-    let v = subst (λ (j : ℕ). Walking c.before.before.before.before.before.before.before.before.before.before.args.problem.now c.before.before.before.before.before.before.before.before.before.before.args.root l.marks l.count j) up l.invariant.1 in (
+    let v = subst (λ (j : ℕ). Walking c.args.problem.now c.args.root l.marks l.count j) up l.invariant.1 in (
       omega arith,
-      walk_marked p.0 p.1 _ p.2 _ _ _ k v c.before.before.before.before.if1.true c.before.before.mark-operands.ensures (kept ∙ l.invariant.1.long),
+      walk_marked p.0 p.1 _ p.2 _ _ _ k v c.if-marks-k-eq1.true c.mark_operands.ensures (kept ∙ l.invariant.1.long),
     )
 
-loop-less-2 : tie.Need-loop-smaller-2 invariant_loop decreases_loop
+loop-less-2 : tie.Need-loop-k-smaller invariant_loop decreases_loop
 loop-less-2 c = omega arith
 
-loop-again-2 : tie.Need-loop-preserved-2 invariant_loop decreases_loop
+loop-again-2 : tie.Need-loop-k-preserved invariant_loop decreases_loop
 loop-again-2 c =
-    let l = c.before.before.before.loop in
-    let p = c.before.before.before.before.before.before.requires in
+    let l = c.loop-k in
+    let p = c.requires in
     let k : ℕ = l.k - 1 in
     let up : l.k ≡ suc k = omega arith in
-    let v = subst (λ (j : ℕ). Walking c.before.before.before.before.before.before.args.problem.now c.before.before.before.before.before.before.args.root l.marks l.count j) up l.invariant.1 in
-    (omega arith, walk_passed p.0 p.1 _ p.2 _ _ k v c.if1.false)
+    let v = subst (λ (j : ℕ). Walking c.args.problem.now c.args.root l.marks l.count j) up l.invariant.1 in
+    (omega arith, walk_passed p.0 p.1 _ p.2 _ _ k v c.if-marks-k-eq1.false)
 
-same_length : tie.Need-same-length invariant_loop decreases_loop
-same_length c = c.before.loop.invariant.1.long ∙ sym (ap length c.before.before.before.before.requires.3 ∙ length-replicate {A = ℕ} 256 0)
+same_length : tie.Need-shape_of-marks invariant_loop decreases_loop
+same_length c = c.loop-k.invariant.1.long ∙ sym (ap length c.requires.3 ∙ length-replicate {A = ℕ} 256 0)
 
 returns : tie.Need-returns invariant_loop decreases_loop
 returns c =
-    let l = c.before.loop in
-    let p = c.before.before.before.before.requires in
+    let l = c.loop-k in
+    let p = c.requires in
     let zero_left : l.k ≡ 0 = omega arith in
     walk_ends p.0 p.1 _ p.2 _ _
-    (subst (λ (j : ℕ). Walking c.before.before.before.before.args.problem.now c.before.before.before.before.args.root l.marks l.count j) zero_left l.invariant.1)
+    (subst (λ (j : ℕ). Walking c.args.problem.now c.args.root l.marks l.count j) zero_left l.invariant.1)
 
 pub reach_spec : {M : Type 1} → statement M
 reach_spec =

@@ -10,54 +10,33 @@ use borrow.Author.Rules.{rules}
 use Rattle.asked.proofs.reach.uses.Statement.{statement}
 use Rattle.asked.proofs.reach.uses.Tie as tie
 
-node-at-requires : tie.Need-node-at-requires
-node-at-requires c κs = search rules
-
-shared-slice-read-in-use : tie.Need-shared-slice-read-in-use
-shared-slice-read-in-use c = search rules
-
-add_wide : tie.Need-overflow-add-wide
-add_wide c = search rules
-
-shared-slice-read-wide : tie.Need-shared-slice-read-wide
-shared-slice-read-wide c = search rules
-
-wide-requires : tie.Need-wide-requires
-wide-requires c κs = search rules
-
-arity-of-requires : tie.Need-arity-of-requires
-arity-of-requires c κs = search rules
-
-in-use-requires : tie.Need-in-use-requires
-in-use-requires c κs = search rules
-
 returns : tie.Need-returns
 returns c =
     let start = c.before.before.before.before.before.before.before in
     let s = start.args.problem.now in
     let p = start.requires in
-    let stands = node_stands p.0 _ _ c.before.before.before.before.before.Node-at.ensures p.2 in
+    let stands = node_stands p.0 _ _ c.node_at-at.ensures p.2 in
     let counted =
     c.in_use.ensures
     ∙ sym
     (ap₂ (λ (op ar : ℕ). count_of (operand_sorts (op_of op) ar)) (ap (λ (n : Node). n.op) stands)
     (ap (λ (n : Node). arity (symbols_of s) n.sym) stands
-    ∙ ap (arity (symbols_of s)) (sym c.before.before.wide.ensures.0)
-    ∙ sym c.before.arity-of.ensures.0))
+    ∙ ap (arity (symbols_of s)) (sym c.wide.ensures.0)
+    ∙ sym c.arity_of.ensures.0))
     in
     let few = uses-few p.0 p.1 _ p.2 in
     let long = uses-length p.0 p.1 _ p.2 in
     (counted ∙ sym long, subst (λ (m : ℕ). m ≤ 3) (sym counted) few)
 
-pub uses-spec : {M : Type 1} → statement M
-uses-spec =
+pub uses_spec : {M : Type 1} → statement M
+uses_spec =
     tie.close
     (tie.spec
-    node-at-requires
-    shared-slice-read-in-use
-    add_wide
-    shared-slice-read-wide
-    wide-requires
-    arity-of-requires
-    in-use-requires
+    (λ c κs. search rules)
+    (λ c. search rules)
+    (λ c. search rules)
+    (λ c. search rules)
+    (λ c κs. search rules)
+    (λ c κs. search rules)
+    (λ c κs. search rules)
     returns)

@@ -9,31 +9,28 @@ use Rattle.definitions.specs.Bytes.{two_at}
 use Rattle.asked.proofs.trim.number_at.Statement.{statement}
 use Rattle.asked.proofs.trim.number_at.Tie as tie
 
-two-at-requires : tie.Need-two-at-requires
-two-at-requires c κs = search rules
-
-shared-slice-read-wide : tie.Need-shared-slice-read-wide
+shared-slice-read-wide : tie.Need-bounds-numbers-two_at
 shared-slice-read-wide c =
-    let p = c.before.before.before.before.before.requires in
-    let small = p.2 c.before.before.if1.true in
-    omega (arith, c.before.two_at.ensures.0, p.1)
+    let p = c.requires in
+    let small = p.2 c.if-used.true in
+    omega (arith, c.two_at.ensures.0, p.1)
 
-wide-requires : tie.Need-wide-requires
-wide-requires c κs = search rules
-
-returns : tie.Need-returns
+returns : tie.Need-returns-then-used
 returns c =
     let start = c.before.before.before.before.before.before in
     let numbers = start.args.numbers.now in
     let x = get_or numbers (two_at start.args.problem.now start.args.at) 0 in (
-      c.wide.ensures.0 ∙ ap (λ (i : ℕ). get_or numbers i 0) c.before.before.two_at.ensures.0
-          ∙ sym (ap (λ (b : Bool). cond b x 0) c.before.before.before.if1.true),
+      c.wide.ensures.0 ∙ ap (λ (i : ℕ). get_or numbers i 0) c.two_at.ensures.0
+          ∙ sym (ap (λ (b : Bool). cond b x 0) c.if-used.true),
       c.wide.ensures.1,
     )
 
-returns_2 : tie.Need-returns-2
-returns_2 c = search rules
-
 pub number_at_spec : {M : Type 1} → statement M
 number_at_spec =
-    tie.close (tie.spec two-at-requires shared-slice-read-wide wide-requires returns returns_2)
+    tie.close
+    (tie.spec
+    (λ c κs. search rules)
+    shared-slice-read-wide
+    (λ c κs. search rules)
+    returns
+    (λ c. search rules))
