@@ -15,28 +15,25 @@ use Rattle.elimination.proofs.StateLaws.{laid_same, laid_none}
 use Rattle.elimination.proofs.lay_table.Statement.{statement}
 use Rattle.elimination.proofs.lay_table.Tie as tie
 
-abbrev invariant_loop : tie.invariant-loop
+abbrev invariant_loop : tie.invariant-loop-k
 invariant_loop problem header work₀ images₀ apps₀ owns₀ all₀ k₀ work images apps owns all k =
     (k ≤ header.nodes)
     × LaidAt problem k (laid_of images apps owns all)
     × (work ≡ over (table_bytes (state_at problem k).out) work₀)
     × (length work ≡ length work₀)
 
-abbrev decreases_loop : tie.decreases-loop
+abbrev decreases_loop : tie.decreases-loop-k
 decreases_loop problem header work₀ images₀ apps₀ owns₀ all₀ k₀ work images apps owns all k = header.nodes - k
 
-none-requires : tie.Need-none-requires invariant_loop decreases_loop
-none-requires c κs = search rules
-
-loop_holds : tie.Need-loop-init invariant_loop decreases_loop
+loop_holds : tie.Need-loop-k-init invariant_loop decreases_loop
 loop_holds c =
     let st = c.before.before.before.before.before.before in
     let s = st.args.problem.now in
     let none = laid_none s _ _ _ st.requires.3 st.requires.4 st.requires.5 in
-    (omega arith, laid_same c.none.ensures none, refl, refl)
+    (omega arith, laid_same c.none-all.ensures none, refl, refl)
 
 -- the problem, and its header
-module _ (c : tie.At-loop invariant_loop decreases_loop) where
+module _ (c : tie.At-loop-k invariant_loop decreases_loop) where
   abbrev start : tie.Start invariant_loop decreases_loop
   start = c.before.before.before.before.before.before.before
 
@@ -44,47 +41,38 @@ module _ (c : tie.At-loop invariant_loop decreases_loop) where
   bytes = start.args.problem.now
 
   header : Shaped bytes start.args.header
-  header = start.pre.1
+  header = start.requires.1
 
-take-node-requires : tie.Need-take-node-requires invariant_loop decreases_loop
+take-node-requires : tie.Need-take_node-next-requires invariant_loop decreases_loop
 take-node-requires c κs =
     let at = c.before.before.before.before.before.before in
     let p = (start at).requires in
-    (p.0, header at, c.before.before.before.before.if1.true, omega (arith, p.2, at.loop.invariant.3), at.loop.invariant.1)
+    (p.0, header at, c.loop-k-test.true, omega (arith, p.2, at.loop-k.invariant.3), at.loop-k.invariant.1)
 
-add-k : tie.Need-overflow-add-k invariant_loop decreases_loop
-add-k c = search rules
-
-loop_less : tie.Need-loop-smaller invariant_loop decreases_loop
-loop_less c = search rules
-
-loop_again : tie.Need-loop-preserved invariant_loop decreases_loop
+loop_again : tie.Need-loop-k-preserved invariant_loop decreases_loop
 loop_again c =
     let took = c.before.before.before.before.before.before.before.before in
     let at = took.before.before.before.before.before.before.before in (
       omega arith,
-      took.take-node.ensures.0,
-      took.take-node.ensures.1 _ at.loop.invariant.2,
-      took.take-node.auto.1.1.1.0 ∙ at.loop.invariant.3,
+      took.take_node-next.ensures.0,
+      took.take_node-next.ensures.1 _ at.loop-k.invariant.2,
+      took.take_node-next.auto.work ∙ at.loop-k.invariant.3,
     )
 
-same_length : tie.Need-same-length invariant_loop decreases_loop
-same_length c = search rules
-
 -- the lists that are lent keep their lengths
-same_length_2 : tie.Need-same-length-2 invariant_loop decreases_loop
-same_length_2 c = c.before.before.loop.invariant.1.images_long ∙ sym (start c.before.before).pre.3
+same_length_2 : tie.Need-shape_of-images invariant_loop decreases_loop
+same_length_2 c = c.loop-k.invariant.1.images_long ∙ sym (start c.before.before).requires.3
 
-same_length_3 : tie.Need-same-length-3 invariant_loop decreases_loop
-same_length_3 c = c.before.before.loop.invariant.1.apps_long ∙ sym (start c.before.before).pre.4
+same_length_3 : tie.Need-shape_of-apps invariant_loop decreases_loop
+same_length_3 c = c.loop-k.invariant.1.apps_long ∙ sym (start c.before.before).requires.4
 
-same_length_4 : tie.Need-same-length-4 invariant_loop decreases_loop
-same_length_4 c = c.before.before.loop.invariant.1.owns_long ∙ sym (start c.before.before).pre.5
+same_length_4 : tie.Need-shape_of-owns invariant_loop decreases_loop
+same_length_4 c = c.loop-k.invariant.1.owns_long ∙ sym (start c.before.before).requires.5
 
 returns : tie.Need-returns invariant_loop decreases_loop
 returns c =
-    let inv = c.before.before.loop.invariant in
-    let all : c.before.before.loop.k ≡ node_count (bytes c.before.before) = omega (arith, (header c.before.before).nodes_are, inv.0) in
+    let inv = c.loop-k.invariant in
+    let all : c.loop-k.k ≡ node_count (bytes c.before.before) = omega (arith, (header c.before.before).nodes_are, inv.0) in
     record { laid = rw all at inv.1; work_after_is = rw all at inv.2 }
 
 pub lay_table_spec : {M : Type 1} → statement M
@@ -93,13 +81,13 @@ lay_table_spec =
     (tie.spec
     invariant_loop
     decreases_loop
-    none-requires
+    (λ c κs. search rules)
     loop_holds
     take-node-requires
-    add-k
-    loop_less
+    (λ c. search rules)
+    (λ c. search rules)
     loop_again
-    same_length
+    (λ c. search rules)
     same_length_2
     same_length_3
     same_length_4

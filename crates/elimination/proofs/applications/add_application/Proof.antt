@@ -20,12 +20,6 @@ use borrow.Author.Rules.{rules}
 use Rattle.elimination.proofs.applications.add_application.Statement.{statement}
 use Rattle.elimination.proofs.applications.add_application.Tie as tie
 
-node-at-requires : tie.Need-node-at-requires
-node-at-requires c κs = search rules
-
-shared-slice-read-op : tie.Need-shared-slice-read-op
-shared-slice-read-op c = search rules
-
 -- node k of the problem
 module _ (c : tie.Start) where
   abbrev bytes : List ℕ
@@ -57,79 +51,61 @@ module _ (c : tie.Start) where
   few op = count_small bytes c.requires.0 k within op
 
 -- its op is read
-op_read : (c : tie.After-node-at) → let st = c.before.before.before.before.before.before in (the_node st).op ≡ byte_at (bytes st) c.Node-at.result
+op_read : (c : tie.After-node_at) → let st = c.before.before.before.before.before.before in (the_node st).op ≡ byte_at (bytes st) c.node_at.result
 op_read c =
     let st = c.before.before.before.before.before.before in
-    ap (λ (n : Node). n.op) (node_stands st.requires.1 _ _ c.Node-at.ensures st.requires.2)
+    ap (λ (n : Node). n.op) (node_stands st.requires.1 _ _ c.node_at.ensures st.requires.2)
 
-lay-application-requires : tie.Need-lay-application-requires
-lay-application-requires c κs = search rules
+cast-apps : tie.Need-overflow_cast-apps
+cast-apps c = omega (arith, c.requires.1.few_nodes)
 
-sub-image : tie.Need-overflow-sub-image
-sub-image c = search rules
+slice-write-apps : tie.Need-bounds-apps-i
+slice-write-apps c = let st = c.before.before.before.before.before.before.before.before.before.before.before in omega (arith, has_place_lem st, st.requires.4.apps_long)
 
-cast-apps : tie.Need-overflow-cast-apps
-cast-apps c = omega (arith, c.before.before.before.before.before.before.before.before.before.before.before.before.before.before.requires.1.few_nodes)
+cast-owns : tie.Need-overflow_cast-owns
+cast-owns c = omega (arith, own_fits c.before.before.before.before.before.before.before.before.before.before.before)
 
-slice-write-apps : tie.Need-slice-write-apps
-slice-write-apps c = let st = c.before.before.before.before.before.before.before.before.before.before.before.before.before.before in omega (arith, has_place_lem st, st.requires.4.apps_long)
+mul-owns : tie.Need-offset_bounds-owns-i
+mul-owns c = omega (arith, has_place_lem c.before.before.before.before.before.before.before.before.before.before.before)
 
-cast-owns : tie.Need-overflow-cast-owns
-cast-owns c = omega (arith, own_fits c.before.before.before.before.before.before.before.before.before.before.before.before.before.before)
+slice-write-owns : tie.Need-bounds-owns-i
+slice-write-owns c = let st = c.before.before.before.before.before.before.before.before.before.before.before in omega (arith, has_place_lem st, st.requires.4.owns_long)
 
-mul-owns : tie.Need-overflow-mul-owns
-mul-owns c = omega (arith, has_place_lem c.before.before.before.before.before.before.before.before.before.before.before.before.before.before)
+cast-images : tie.Need-overflow_cast-images
+cast-images c = let st = c.before.before.before.before.before.before.before.before.before.before.before in omega (arith, own_fits st, next_fits st, c.lay_application-at.ensures.1)
 
-slice-write-owns : tie.Need-slice-write-owns
-slice-write-owns c = let st = c.before.before.before.before.before.before.before.before.before.before.before.before.before.before in omega (arith, has_place_lem st, st.requires.4.owns_long)
+mul-images : tie.Need-offset_bounds-images-k
+mul-images c = omega (arith, c.requires.1.few_nodes)
 
-cast-images : tie.Need-overflow-cast-images
-cast-images c = let st = c.before.before.before.before.before.before.before.before.before.before.before.before.before.before in omega (arith, own_fits st, next_fits st, c.before.before.lay-application.ensures.1)
-
-mul-images : tie.Need-overflow-mul-images
-mul-images c = omega (arith, c.before.before.before.before.before.before.before.before.before.before.before.before.before.before.requires.1.few_nodes)
-
-slice-write-images : tie.Need-slice-write-images
-slice-write-images c = let st = c.before.before.before.before.before.before.before.before.before.before.before.before.before.before in omega (arith, st.requires.1.few_nodes, st.requires.4.images_long)
+slice-write-images : tie.Need-bounds-images-k
+slice-write-images c = let st = c.before.before.before.before.before.before.before.before.before.before.before in omega (arith, st.requires.1.few_nodes, st.requires.4.images_long)
 
 applied-requires : tie.Need-applied-requires
 applied-requires c κs =
-    let st = c.before.before.before.before.before.before.before.before.before.before.before.before.before.before in
+    let st = c.before.before.before.before.before.before.before.before.before.before.before in
     let laid = st.requires.4 in (
       omega (arith, has_place_lem st),
       omega (arith, laid.functions_are, few st 0),
       omega (arith, laid.predicates_are, few st 6),
     )
 
-same_length : tie.Need-same-length
-same_length c = search rules
-
-same_length_2 : tie.Need-same-length-2
-same_length_2 c = search rules
-
-same_length_3 : tie.Need-same-length-3
-same_length_3 c = search rules
-
-same_length_4 : tie.Need-same-length-4
-same_length_4 c = search rules
-
 returns : tie.Need-returns
 returns c =
-    let laid = c.before.before.before.lay-application in
-    let st = c.before.before.before.before.before.before.before.before.before.before.before.before.before.before.before in
+    let laid = c.lay_application-at in
+    let st = c.before.before.before.before.before.before.before.before.before.before.before.before in
     let p = st.requires in
     let noted = application_added (bytes st) p.0 (k st) (within st) p.5 p.6 _ _ _ (tally st) p.4 laid.result laid.ensures.1 in
-    let is = c.applied.ensures ∙ ap (λ op. tallied (tally st) op laid.result) (sym (op_read c.before.before.before.before.before.before.before.before.before)) in
+    let is = c.applied.ensures ∙ ap (λ op. tallied (tally st) op laid.result) (sym (op_read c.before.before.before.before.before.before)) in
     (laid_same is noted, laid.ensures.0)
 
 pub add_application_spec : {M : Type 1} → statement M
 add_application_spec =
     tie.close
     (tie.spec
-    node-at-requires
-    shared-slice-read-op
-    lay-application-requires
-    sub-image
+    (λ c κs. search rules)
+    (λ c. search rules)
+    (λ c κs. search rules)
+    (λ c. search rules)
     cast-apps
     slice-write-apps
     cast-owns
@@ -139,8 +115,8 @@ add_application_spec =
     mul-images
     slice-write-images
     applied-requires
-    same_length
-    same_length_2
-    same_length_3
-    same_length_4
+    (λ c. search rules)
+    (λ c. search rules)
+    (λ c. search rules)
+    (λ c. search rules)
     returns)

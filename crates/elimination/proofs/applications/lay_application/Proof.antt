@@ -21,18 +21,6 @@ use borrow.Author.Rules.{rules}
 use Rattle.elimination.proofs.applications.lay_application.Statement.{statement}
 use Rattle.elimination.proofs.applications.lay_application.Tie as tie
 
-node-at-requires : tie.Need-node-at-requires
-node-at-requires c κs = search rules
-
-shared-slice-read-op : tie.Need-shared-slice-read-op
-shared-slice-read-op c = search rules
-
-next_requires : tie.Need-next-requires
-next_requires c κs = search rules
-
-cast-symbol : tie.Need-overflow-cast-symbol
-cast-symbol c = search rules
-
 -- node k of the problem: a distinct application, for which there is room
 module _ (c : tie.Start) where
   abbrev bytes : List ℕ
@@ -53,12 +41,6 @@ module _ (c : tie.Start) where
 lay-requires : tie.Need-lay-requires
 lay-requires c κs = omega (arith, has_room c.before.before.before.before.before.before.before.before.before)
 
-lay-choices-requires : tie.Need-lay-choices-requires
-lay-choices-requires c κs = search rules
-
-same_length : tie.Need-same-length
-same_length c = search rules
-
 returns : tie.Need-returns
 returns c =
     let chose = c.before.before in
@@ -66,34 +48,34 @@ returns c =
     let st = own.before.before.before.before.before.before.before.before.before.before in
     let s = bytes st in
     let n = node (nodes_of s) (k st) in
-    let stands = node_stands st.requires.1 (k st) _ own.before.before.before.before.Node-at.ensures st.requires.2 in
+    let stands = node_stands st.requires.1 (k st) _ own.node_at.ensures st.requires.2 in
     let op_read = ap (λ (m : Node). m.op) (sym stands) in
     let small = variable_small s st.requires.0 (k st) (within st) in
-    let next = own.before.before.next in
+    let next = own.next-variable in
     let is-next = next_number s st.requires.0 (k st) (within st) st.requires.5 st.requires.6 _ _ _ st.args.before st.requires.4 in
     let number : next.result % 256 ≡ next_var (state_at s (k st)) n =
     omega (arith, next.ensures ∙ ap (next_of st.args.before) op_read ∙ is-next)
     in
     let variable = ap₂ variable_node op_read number in
     let earlier = keep (same_symbol n) (state_at s (k st)).apps in
-    let laid = lays_on own.lay.ensures refl chose.lay-choices.ensures.0 in
+    let laid = lays_on own.lay.ensures refl chose.lay_choices.ensures.0 in
     let is =
     ap (λ m. chosen s (k st) (snoc (state_at s (k st)).out m) earlier) variable ∙ sym (ap (λ (F : State). F.out) (added st))
     in (
       step_lays s (k st) _ (sym st.requires.4.nodes_are) is laid,
       sym (laid.counts (state_at s (k st)).out (sym st.requires.4.nodes_are)) ∙ ap (length {A = Node}) is,
-      omega (arith, chose.lay-choices.ensures.1),
+      omega (arith, chose.lay_choices.ensures.1),
     )
 
 pub lay_application_spec : {M : Type 1} → statement M
 lay_application_spec =
     tie.close
     (tie.spec
-    node-at-requires
-    shared-slice-read-op
-    next_requires
-    cast-symbol
+    (λ c κs. search rules)
+    (λ c. search rules)
+    (λ c κs. search rules)
+    (λ c. search rules)
     lay-requires
-    lay-choices-requires
-    same_length
+    (λ c κs. search rules)
+    (λ c. search rules)
     returns)

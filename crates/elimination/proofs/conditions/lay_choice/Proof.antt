@@ -11,33 +11,15 @@ use Rattle.problem.proofs.Laying.{lays_node}
 use Rattle.elimination.proofs.conditions.lay_choice.Statement.{statement}
 use Rattle.elimination.proofs.conditions.lay_choice.Tie as tie
 
-lay-condition-requires : tie.Need-lay-condition-requires
-lay-condition-requires c κs = search rules
-
-sub-t12 : tie.Need-overflow-sub-t12
-sub-t12 c = search rules
-
-sub-t13 : tie.Need-overflow-sub-t13
-sub-t13 c = search rules
-
-lay-requires : tie.Need-lay-requires
-lay-requires c κs = search rules
-
-add-result : tie.Need-overflow-add-result
-add-result c = search rules
-
-same_length : tie.Need-same-length
-same_length c = search rules
-
 returns : tie.Need-returns
 returns c =
     let s = c.before.before.before.before.before.before.before.before.before in
-    let laid = c.before.before.before.before.before.before.lay-condition.ensures in (
+    let laid = c.lay_condition-at.ensures in (
       lays_node (λ t. plain s.args.op (last (condition t (take s.args.arity s.args.xs) (take s.args.arity s.args.ys))) s.args.own (last t))
           laid.0
           (λ t l m.
           ap₂ (λ (i j : ℕ). plain s.args.op i s.args.own j) (let e : _ ≡ _ = omega arith in e) (let e : _ ≡ _ = omega arith in e))
-          c.before.before.lay.ensures,
+          c.lay.ensures,
       omega (arith, laid.1),
       omega (arith, laid.2),
     )
@@ -45,4 +27,11 @@ returns c =
 pub lay_choice_spec : {M : Type 1} → statement M
 lay_choice_spec =
     tie.close
-    (tie.spec lay-condition-requires sub-t12 sub-t13 lay-requires add-result same_length returns)
+    (tie.spec
+    (λ c κs. search rules)
+    (λ c. search rules)
+    (λ c. search rules)
+    (λ c κs. search rules)
+    (λ c. search rules)
+    (λ c. search rules)
+    returns)

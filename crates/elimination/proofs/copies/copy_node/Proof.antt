@@ -15,24 +15,6 @@ use borrow.Author.Rules.{rules}
 use Rattle.elimination.proofs.copies.copy_node.Statement.{statement}
 use Rattle.elimination.proofs.copies.copy_node.Tie as tie
 
-images-of-requires : tie.Need-images-of-requires
-images-of-requires c κs = search rules
-
-node-at-requires : tie.Need-node-at-requires
-node-at-requires c κs = search rules
-
-shared-slice-read-op : tie.Need-shared-slice-read-op
-shared-slice-read-op c = search rules
-
-array-read-t11 : tie.Need-array-read-t11
-array-read-t11 c = search rules
-
-array-read-t18 : tie.Need-array-read-t18
-array-read-t18 c = search rules
-
-array-read-t21 : tie.Need-array-read-t21
-array-read-t21 c = search rules
-
 -- node k of the problem: the step taken is a copy, for which there is room
 module _ (c : tie.Start) where
   abbrev bytes : List ℕ
@@ -57,33 +39,30 @@ on_three op xs = record { op = op; sym = 0; a = get_or xs 0 0; b = get_or xs 1 0
 lay-requires : tie.Need-lay-requires
 lay-requires c κs =
     let room = has_room c.before.before.before.before.before.before.before in
-    let images = c.before.before.before.images-of.ensures in
+    let images = c.images_of-xs.ensures in
     (omega arith, omega arith, omega (arith, images.1), omega (arith, images.2), omega (arith, images.3))
-
-same_length : tie.Need-same-length
-same_length c = search rules
 
 returns : tie.Need-returns
 returns c =
     let read = c.before.before.before in
     let st = read.before.before.before.before.before.before.before in
     let s = bytes st in
-    let stands = node_stands st.requires.1 (k st) _ read.before.before.Node-at.ensures st.requires.2 in
-    let images = read.before.before.before.images-of in
+    let stands = node_stands st.requires.1 (k st) _ read.node_at.ensures st.requires.2 in
+    let images = read.images_of-xs in
     let made = ap₂ on_three (ap (λ (n : Node). n.op) (sym stands)) images.ensures.0 in
     step_lays s (k st) _ (sym st.requires.6) (ap (snoc (state_at s (k st)).out) made ∙ sym (ap (λ (F : State). F.out) (copied st)))
-    c.before.before.lay.ensures
+    c.lay.ensures
 
 pub copy_node_spec : {M : Type 1} → statement M
 copy_node_spec =
     tie.close
     (tie.spec
-    images-of-requires
-    node-at-requires
-    shared-slice-read-op
-    array-read-t11
-    array-read-t18
-    array-read-t21
+    (λ c κs. search rules)
+    (λ c κs. search rules)
+    (λ c. search rules)
+    (λ c. search rules)
+    (λ c. search rules)
+    (λ c. search rules)
     lay-requires
-    same_length
+    (λ c. search rules)
     returns)

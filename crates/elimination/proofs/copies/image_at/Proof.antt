@@ -22,30 +22,6 @@ use borrow.Author.Rules.{rules}
 use Rattle.elimination.proofs.copies.image_at.Statement.{statement}
 use Rattle.elimination.proofs.copies.image_at.Tie as tie
 
-node-at-requires : tie.Need-node-at-requires
-node-at-requires c κs = search rules
-
-add_wide : tie.Need-overflow-add-wide
-add_wide c = search rules
-
-shared-slice-read-wide : tie.Need-shared-slice-read-wide
-shared-slice-read-wide c = search rules
-
-wide-requires : tie.Need-wide-requires
-wide-requires c κs = search rules
-
-arity-of-requires : tie.Need-arity-of-requires
-arity-of-requires c κs = search rules
-
-shared-slice-read-wants : tie.Need-shared-slice-read-wants
-shared-slice-read-wants c = search rules
-
-wants-requires : tie.Need-wants-requires
-wants-requires c κs = search rules
-
-enum_told : tie.Need-enum-told
-enum_told c = search rules
-
 -- a field is in use where it is wanted for a term, variant 1, or for a formula, variant 2
 wanted_for : (w : Wanted) → OneOf (1 ∷ 2 ∷ []) (Declared.tag_of the_type w) → (x : Sort) × (wanted_read w ≡ some x)
 wanted_for Wanted.Unused (inl e) = absurd (omega arith)
@@ -66,69 +42,51 @@ module _ (c : tie.After-wants) where
 
   is_wanted_lem : wanted (symbols_of bytes) the_node start.args.j ≡ wanted_read c.wants.result
   is_wanted_lem =
-      let at = c.before.before.before.before.before.Node-at.ensures in
-      let stands = node_stands start.pre.1 _ _ at (omega arith) in
+      let at = c.node_at-at.ensures in
+      let stands = node_stands start.requires.1 _ _ at (omega arith) in
       ap₂ (λ (op ar : ℕ). wanted_of op ar start.args.j) (ap (λ (n : Node). n.op) stands)
       (ap (λ (n : Node). arity (symbols_of bytes) n.sym) stands
-      ∙ ap (arity (symbols_of bytes)) (sym c.before.before.before.wide.ensures.0)
-      ∙ sym c.before.before.arity-of.ensures.0)
+      ∙ ap (arity (symbols_of bytes)) (sym c.wide.ensures.0)
+      ∙ sym c.arity_of-arity.ensures.0)
       ∙ sym c.wants.ensures
 
-returns : tie.Need-returns
+returns : tie.Need-returns-in-Unused
 returns c =
-    let read = c.before.before in
+    let read = c.before in
     let images = (state_at (bytes read) (start read).args.k).images in
-    let unused = is_wanted_lem read ∙ ap wanted_read c.enum_told.given.1 in
+    let unused = is_wanted_lem read ∙ ap wanted_read c.in-Unused.is in
     (sym (image_unused (symbols_of (bytes read)) (the_node read) _ images unused), omega arith)
 
-add-two-at : tie.Need-overflow-add-two-at
-add-two-at c = search rules
-
-mul-two-at : tie.Need-overflow-mul-two-at
-mul-two-at c = search rules
-
-add-two-at-2 : tie.Need-overflow-add-two-at-2
-add-two-at-2 c = search rules
-
-two-at-requires : tie.Need-two-at-requires
-two-at-requires c κs = search rules
-
 -- the operand read is field j of node q, which is in use
-module _ (c : tie.After-two-at) where
+module _ (c : tie.After-two_at-operand) where
   abbrev entry : tie.Start
   entry = start c.before.before
 
-  field_read : get_or (fields_of (the_node c.before.before)) entry.args.j 0 ≡ c.two_at.result
+  field_read : get_or (fields_of (the_node c.before.before)) entry.args.j 0 ≡ c.two_at-operand.result
   field_read =
-      let at = c.before.before.before.before.before.before.before.Node-at.ensures in
-      field_stands entry.pre.1 _ _ _ at (omega arith) entry.pre.5
-      ∙ sym c.two_at.ensures.0
+      let at = c.node_at-at.ensures in
+      field_stands entry.requires.1 _ _ _ at (omega arith) entry.requires.5
+      ∙ sym c.two_at-operand.ensures.0
 
   in_use : InUse (bytes c.before.before) entry.args.k entry.args.q entry.args.j
   in_use =
-      let (x, e) = wanted_for c.before.before.wants.result c.before.match.keys2 in
+      let (x, e) = wanted_for c.wants.result c.in_default.in_default-own.keys2 in
       record {
-        ok = entry.pre.0;
-        before = entry.pre.2;
-        inside = omega (arith, entry.pre.1.nodes_are);
-        within = omega (arith, entry.pre.1.nodes_are);
-        field = entry.pre.5;
+        ok = entry.requires.0;
+        before = entry.requires.2;
+        inside = omega (arith, entry.requires.1.nodes_are);
+        within = omega (arith, entry.requires.1.nodes_are);
+        field = entry.requires.5;
         sort = x;
         used = is_wanted_lem c.before.before ∙ e;
       }
 
-mul-number : tie.Need-overflow-mul-number
-mul-number c = search rules
-
-shared-slice-read-number : tie.Need-shared-slice-read-number
+shared-slice-read-number : tie.Need-bounds-images-operand
 shared-slice-read-number c =
     let at = c.before in
     omega (arith, field_read at, operand_before _ _ _ _ (in_use at), (entry at).requires.6)
 
-number-requires : tie.Need-number-requires
-number-requires c κs = search rules
-
-returns_2 : tie.Need-returns-2
+returns_2 : tie.Need-returns
 returns_2 c =
     let at = c.before.before in
     let images = (entry at).args.images.now in
@@ -142,20 +100,20 @@ pub image_at_spec : {M : Type 1} → statement M
 image_at_spec =
     tie.close
     (tie.spec
-    node-at-requires
-    add_wide
-    shared-slice-read-wide
-    wide-requires
-    arity-of-requires
-    shared-slice-read-wants
-    wants-requires
-    enum_told
+    (λ c κs. search rules)
+    (λ c. search rules)
+    (λ c. search rules)
+    (λ c κs. search rules)
+    (λ c κs. search rules)
+    (λ c. search rules)
+    (λ c κs. search rules)
+    (λ c. search rules)
     returns
-    add-two-at
-    mul-two-at
-    add-two-at-2
-    two-at-requires
-    mul-number
+    (λ c. search rules)
+    (λ c. search rules)
+    (λ c. search rules)
+    (λ c κs. search rules)
+    (λ c. search rules)
     shared-slice-read-number
-    number-requires
+    (λ c κs. search rules)
     returns_2)
