@@ -14,38 +14,35 @@ use Rattle.ranges.proofs.TopLaws.{padded_at, take_padded, ranks_are}
 use Rattle.ranges.proofs.measure_in.Statement.{statement}
 use Rattle.ranges.proofs.measure_in.Tie as tie
 
-leaf-sets-requires : tie.Need-leaf-sets-requires
-leaf-sets-requires c κs = c.before.before.before.pre
+leaf-sets-requires : tie.Need-leaf_sets-requires
+leaf-sets-requires c κs = c.requires
 
-classes-requires : tie.Need-classes-requires
+classes-requires : tie.Need-classes-joined-requires
 classes-requires c κs =
-    let l = c.before.before.before.leaf-sets in
-    let s = c.before.before.before.before.before.before.before in
-    let same = l.kept.1.1.0 in
-    let room = s.pre.1 in
-    (s.pre.0, l.ensures, omega arith)
-
-tops-requires : tie.Need-tops-requires
-tops-requires c κs = search rules
+    let l = c.leaf_sets in
+    let s = c.before.before.before.before.before.before in
+    let same = l.auto.sets in
+    let room = s.requires.1 in
+    (s.requires.0, l.ensures, omega arith)
 
 multiplied-requires : tie.Need-multiplied-requires
 multiplied-requires c κs =
-    let s = c.before.before.before.before.before.before.before.before.before in
-    let f = rank_in c.before.classes.result in (
-      s.pre.0.few_variables,
-      s.pre.0.few_truths,
-      λ v h. omega (arith, ap (λ (ts : List ℕ). get_or ts v 0) c.tops.ensures ∙ padded_at f s.args.shape.variables v h),
+    let s = c.before.before.before.before.before.before.before.before in
+    let f = rank_in c.classes-joined.result in (
+      s.requires.0.few_variables,
+      s.requires.0.few_truths,
+      λ v h. omega (arith, ap (λ (ts : List ℕ). get_or ts v 0) c.tops-tops.ensures ∙ padded_at f s.args.shape.variables v h),
     )
 
-same_length : tie.Need-same-length
-same_length c = c.before.before.before.before.before.before.leaf-sets.kept.1.1.0
+same_length : tie.Need-shape_of-sets
+same_length c = c.leaf_sets.auto.sets
 
 returns : tie.Need-returns
 returns c =
-    let a = c.before.before.before.before.before.before.before.before.before.before.args in
-    let joined = c.before.before.classes in
+    let a = c.args in
+    let joined = c.classes-joined in
     let ranks = ranks_are (table_in a.table.now a.shape.nodes) a.shape.variables joined.result joined.ensures.0 in
-    let shown = c.before.tops.ensures in
+    let shown = c.tops-tops.ensures in
     record {
       tops_are = shown ∙ ap padded ranks;
       product_is =
@@ -60,7 +57,7 @@ measure_in_spec =
     (tie.spec
     leaf-sets-requires
     classes-requires
-    tops-requires
+    (λ c κs. search rules)
     multiplied-requires
     same_length
     returns)

@@ -13,40 +13,40 @@ use Rattle.ranges.proofs.components.alone.Tie as tie
 abbrev Alone : ℕ → ℕ → Type 0
 Alone u set = (v : ℕ) → in_set set v ≡ eqb u v
 
-abbrev invariant_loop : tie.invariant-loop
+abbrev invariant_loop : tie.invariant-loop-v
 invariant_loop sets₀ v₀ sets v = (v ≤ 24) × Filled Alone (λ _. 0) 24 v sets
 
-abbrev decreases_loop : tie.decreases-loop
+abbrev decreases_loop : tie.decreases-loop-v
 decreases_loop sets₀ v₀ sets v = 24 - v
 
-loop_holds : tie.Need-loop-init invariant_loop decreases_loop
+loop_holds : tie.Need-loop-v-init invariant_loop decreases_loop
 loop_holds c = (omega arith, filled_none Alone (λ _. 0) 24 _ refl (zeros 24))
 
 only-requires : tie.Need-only-requires invariant_loop decreases_loop
 only-requires c κs = omega arith
 
-mul-sets : tie.Need-overflow-mul-sets invariant_loop decreases_loop
+mul-sets : tie.Need-offset_bounds-sets-v invariant_loop decreases_loop
 mul-sets c = omega arith
 
-array-write-sets : tie.Need-array-write-sets invariant_loop decreases_loop
+array-write-sets : tie.Need-bounds-sets-v invariant_loop decreases_loop
 array-write-sets c = omega arith
 
-add-v : tie.Need-overflow-add-v invariant_loop decreases_loop
+add-v : tie.Need-overflow_add-v invariant_loop decreases_loop
 add-v c = omega arith
 
-loop_less : tie.Need-loop-smaller invariant_loop decreases_loop
+loop_less : tie.Need-loop-v-smaller invariant_loop decreases_loop
 loop_less c = omega arith
 
-loop_again : tie.Need-loop-preserved invariant_loop decreases_loop
+loop_again : tie.Need-loop-v-preserved invariant_loop decreases_loop
 loop_again c =
-    let l = c.before.before.loop in (
+    let l = c.loop-v in (
       omega arith,
       filled_set Alone (λ _. 0) 24 l.sets l.v (omega arith) l.invariant.1 c.only.result
           (λ v. ap (λ (set : ℕ). in_set set v) c.only.ensures ∙ in_one l.v v),
     )
 
 returns : tie.Need-returns invariant_loop decreases_loop
-returns c = λ u h. c.before.loop.invariant.1.done u (omega arith)
+returns c = λ u h. c.loop-v.invariant.1.done u (omega arith)
 
 pub alone_spec : {M : Type 1} → statement M
 alone_spec =

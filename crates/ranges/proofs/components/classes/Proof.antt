@@ -15,21 +15,22 @@ use Rattle.ranges.specs.declared.Shape.{Shape}
 use Rattle.ranges.proofs.TableLaws.{LeafSet, length_table, equation_in}
 use Rattle.ranges.proofs.LinkLaws.{ClassesBefore, classes_none, classes_all, classes_kept, classes_merged}
 use Rattle.ranges.proofs.components.classes.Statement.{statement}
+use Rattle.ranges.proofs.components.classes.Lts.{then-table-at-eq2, else-table-at-eq2}
 use Rattle.ranges.proofs.components.classes.Tie as tie
 
 -- the 24 sets before node k
 abbrev Sets : List Node → ℕ → ℕ → List ℕ → Type 0
 Sets t N k sets = (length sets ≡ 24) × ClassesBefore t N k sets
 
-abbrev invariant_loop : tie.invariant-loop
+abbrev invariant_loop : tie.invariant-loop-k
 invariant_loop table shape leaves sets₀ k₀ sets k =
     (k ≤ shape.nodes) × Sets (table_in table shape.nodes) shape.variables k sets
 
-abbrev decreases_loop : tie.decreases-loop
+abbrev decreases_loop : tie.decreases-loop-k
 decreases_loop table shape leaves sets₀ k₀ sets k = shape.nodes - k
 
 -- where the op of node k is read
-module _ (c : tie.After-shared-slice-known3 invariant_loop decreases_loop) where
+module _ (c : tie.After-shared_slice_known-in-loop-k-1 invariant_loop decreases_loop) where
   abbrev start : tie.Start invariant_loop decreases_loop
   start = c.before.before.before.before.before.before.before
 
@@ -46,10 +47,10 @@ module _ (c : tie.After-shared-slice-known3 invariant_loop decreases_loop) where
   leaves = start.args.leaves.now
 
   abbrev k : ℕ
-  k = c.before.before.before.loop.k
+  k = c.loop-k.k
 
   abbrev sets : List ℕ
-  sets = c.before.before.before.loop.sets
+  sets = c.loop-k.sets
 
   abbrev n : Node
   n = node_at s (8 * k)
@@ -61,13 +62,13 @@ module _ (c : tie.After-shared-slice-known3 invariant_loop decreases_loop) where
   Next = Sets t N (k + 1)
 
   table : TableIn s shape
-  table = start.pre.0
+  table = start.requires.0
 
   within : k < shape.nodes
-  within = c.before.if1.true
+  within = c.loop-k-test.true
 
   before : ClassesBefore t N k sets
-  before = c.before.before.before.loop.invariant.1.1
+  before = c.loop-k.invariant.1.1
 
   earlier : n.op ≡ 2 → (n.a < shape.nodes) × (n.b < shape.nodes)
   earlier q =
@@ -77,7 +78,7 @@ module _ (c : tie.After-shared-slice-known3 invariant_loop decreases_loop) where
       (omega arith, omega arith)
 
   leaf_set : (i j : ℕ) → i ≡ j → j < shape.nodes → LeafSet t j (get_or leaves i 0)
-  leaf_set i j e h v = ap (λ (b : ℕ). in_set (get_or leaves b 0) v) e ∙ start.pre.1 j v h
+  leaf_set i j e h v = ap (λ (b : ℕ). in_set (get_or leaves b 0) v) e ∙ start.requires.1 j v h
 
   at_equation : n.op ≡ 2 → (i j : ℕ) → i ≡ n.a → j ≡ n.b → (merged : List ℕ)
       → Merged sets (bit_or (get_or leaves i 0) (get_or leaves j 0)) merged → ClassesBefore t N (k + 1) merged
@@ -89,77 +90,71 @@ module _ (c : tie.After-shared-slice-known3 invariant_loop decreases_loop) where
   at_other : (n.op ≡ 2 → ⊥) → ClassesBefore t N (k + 1) sets
   at_other = classes_kept table k within sets before
 
-alone-requires : tie.Need-alone-requires invariant_loop decreases_loop
-alone-requires c κs = search rules
-
-loop_holds : tie.Need-loop-init invariant_loop decreases_loop
+loop_holds : tie.Need-loop-k-init invariant_loop decreases_loop
 loop_holds c =
-    let a = c.before.before.before.args in
-    let few = c.before.before.before.requires.0.few_variables in (
+    let a = c.args in
+    let few = c.requires.0.few_variables in (
       omega arith,
-      (search rules, classes_none (table_in a.table.now a.shape.nodes) a.shape.variables few c.alone.result c.alone.ensures),
+      (search rules, classes_none (table_in a.table.now a.shape.nodes) a.shape.variables few c.alone-sets.result c.alone-sets.ensures),
     )
 
-mul_at : tie.Need-overflow-mul-at invariant_loop decreases_loop
+mul_at : tie.Need-overflow_mul-at invariant_loop decreases_loop
 mul_at c = omega arith
 
-shared-slice-read-if2 : tie.Need-shared-slice-read-if2 invariant_loop decreases_loop
+shared-slice-read-if2 : tie.Need-bounds-table-at invariant_loop decreases_loop
 shared-slice-read-if2 c = omega arith
 
-add-two-at : tie.Need-overflow-add-two-at invariant_loop decreases_loop
+add-two-at : tie.Need-overflow_add-at invariant_loop decreases_loop
 add-two-at c = omega arith
 
-two-at-requires : tie.Need-two-at-requires invariant_loop decreases_loop
+two-at-requires : tie.Need-two_at-left-requires invariant_loop decreases_loop
 two-at-requires c κs = omega arith
 
-add-two-at-2 : tie.Need-overflow-add-two-at-2 invariant_loop decreases_loop
+add-two-at-2 : tie.Need-overflow_add-at-then-table-at-eq2 invariant_loop decreases_loop
 add-two-at-2 c = omega arith
 
-two-at-requires-2 : tie.Need-two-at-requires-2 invariant_loop decreases_loop
+two-at-requires-2 : tie.Need-two_at-right-requires invariant_loop decreases_loop
 two-at-requires-2 c κs = omega arith
 
-slice-aggregate-merge : tie.Need-slice-aggregate-merge invariant_loop decreases_loop
-slice-aggregate-merge c = search (rules, c.before.before.before.before.before.before.before.loop.invariant.1.0)
+slice-aggregate-merge : tie.Need-slice_bounds-merge-end invariant_loop decreases_loop
+slice-aggregate-merge c = search (rules, c.loop-k.invariant.1.0)
 
-mul-merge : tie.Need-overflow-mul-merge invariant_loop decreases_loop
+mul-merge : tie.Need-offset_bounds-leaves-left invariant_loop decreases_loop
 mul-merge c = omega arith
 
-shared-slice-read-merge : tie.Need-shared-slice-read-merge invariant_loop decreases_loop
-shared-slice-read-merge c = omega (arith, earlier c.before.before.before.before.before c.before.before.before.before.if2.true)
+shared-slice-read-merge : tie.Need-bounds-leaves-left invariant_loop decreases_loop
+shared-slice-read-merge c = omega (arith, earlier c.before.before.before.before.before c.if-table-at-eq2.true)
 
-mul-merge-2 : tie.Need-overflow-mul-merge-2 invariant_loop decreases_loop
+mul-merge-2 : tie.Need-offset_bounds-leaves-right invariant_loop decreases_loop
 mul-merge-2 c = omega arith
 
-shared-slice-read-merge-2 : tie.Need-shared-slice-read-merge-2 invariant_loop decreases_loop
+shared-slice-read-merge-2 : tie.Need-bounds-leaves-right invariant_loop decreases_loop
 shared-slice-read-merge-2 c =
-    omega (arith, earlier c.before.before.before.before.before.before c.before.before.before.before.before.if2.true)
+    omega (arith, earlier c.before.before.before.before.before.before c.if-table-at-eq2.true)
 
 merge-requires : tie.Need-merge-requires invariant_loop decreases_loop
-merge-requires c κs = c.before.before.before.before.before.before.before.before.before.loop.invariant.1.0
+merge-requires c κs = c.loop-k.invariant.1.0
 
-add-k : tie.Need-overflow-add-k invariant_loop decreases_loop
+add-k : tie.Need-overflow_add-k invariant_loop decreases_loop
 add-k c = omega arith
 
-loop_less : tie.Need-loop-smaller invariant_loop decreases_loop
+loop_less : tie.Need-loop-k-smaller invariant_loop decreases_loop
 loop_less c = omega arith
 
-loop_again : tie.Need-loop-preserved invariant_loop decreases_loop
+loop_again : tie.Need-loop-k-preserved invariant_loop decreases_loop
 loop_again c = (
   omega arith,
-  ⊎_elim
-      (λ w.
-      subst (Next c.before) (sym w.8) (
-        w.6.kept.0 ∙ c.before.before.before.before.loop.invariant.1.0,
-        at_equation c.before w.0.taken w.1.result w.2.result w.1.ensures.0 w.2.ensures.0 w.6.last.0
-            w.6.ensures,
-      ))
-      (λ w. subst (Next c.before) (sym w.1) (c.before.before.before.before.loop.invariant.1.0, at_other c.before w.0.left))
-      c.if2.branch,
+  elim c.if-table-at-eq2.branch [ then-table-at-eq2 w ↦ subst (Next c.before) (sym w.sets-is) (
+        w.merge.auto.sets ∙ c.loop-k.invariant.1.0,
+        at_equation c.before w.if-table-at-eq2.true w.two_at-left.result w.two_at-right.result w.two_at-left.ensures.0 w.two_at-right.ensures.0 w.merge.new.sets
+            w.merge.ensures,
+      )
+ | else-table-at-eq2 w ↦ subst (Next c.before) (sym w.sets-is) (c.loop-k.invariant.1.0, at_other c.before w.if-table-at-eq2.false) ],
 )
 
 returns : tie.Need-returns invariant_loop decreases_loop
 returns c =
-    let l = c.before.before.loop in
+    let l = c.loop-k in
     let s = c.before.before.before.before.before.before in
     let t = table_in s.args.table.now s.args.shape.nodes in
     let e : l.k ≡ length t = omega (arith, length_table s.args.table.now s.args.shape.nodes) in (
@@ -174,7 +169,7 @@ classes_spec =
     (tie.spec
     invariant_loop
     decreases_loop
-    alone-requires
+    (λ c κs. search rules)
     loop_holds
     mul_at
     shared-slice-read-if2

@@ -11,71 +11,65 @@ use lib.ListN.{get_or}
 use Rattle.ranges.specs.Sets.{in_set}
 use Rattle.ranges.proofs.Filled.{Filled, filled_none, filled_set, filled_kept}
 use Rattle.ranges.proofs.components.merge.Statement.{statement}
+use Rattle.ranges.proofs.components.merge.Lts.{then-has, else-has}
 use Rattle.ranges.proofs.components.merge.Tie as tie
 
 -- a set is the class of v after the merge
 abbrev After : List ℕ → ℕ → ℕ → ℕ → Type 0
 After sets all v set = set ≡ cond (in_set all v) all (get_or sets v 0)
 
-abbrev invariant_loop : tie.invariant-loop
+abbrev invariant_loop : tie.invariant-loop-v
 invariant_loop sets₀ these all v₀ sets v = (v ≤ 24) × Filled (After sets₀ all) (λ u. get_or sets₀ u 0) 24 v sets
 
-abbrev decreases_loop : tie.decreases-loop
+abbrev decreases_loop : tie.decreases-loop-v
 decreases_loop sets₀ these all v₀ sets v = 24 - v
 
-union-requires : tie.Need-union-requires invariant_loop decreases_loop
-union-requires c κs = search rules
-
-loop_holds : tie.Need-loop-init invariant_loop decreases_loop
+loop_holds : tie.Need-loop-v-init invariant_loop decreases_loop
 loop_holds c =
-    let s = c.before.before.before in
+    let s = c.before.before in
     let sets = s.args.sets.now in
-    (omega arith, filled_none (After sets c.union.result) (λ u. get_or sets u 0) 24 sets s.requires (λ u. refl))
+    (omega arith, filled_none (After sets c.union-all.result) (λ u. get_or sets u 0) 24 sets s.requires (λ u. refl))
 
 has-requires : tie.Need-has-requires invariant_loop decreases_loop
 has-requires c κs = omega arith
 
-mul-sets : tie.Need-overflow-mul-sets invariant_loop decreases_loop
+mul-sets : tie.Need-offset_bounds-sets-v invariant_loop decreases_loop
 mul-sets c = omega arith
 
-slice-write-sets : tie.Need-slice-write-sets invariant_loop decreases_loop
-slice-write-sets c = let long = c.before.before.before.loop.invariant.1.long in omega arith
+slice-write-sets : tie.Need-bounds-sets-v invariant_loop decreases_loop
+slice-write-sets c = let long = c.loop-v.invariant.1.long in omega arith
 
-add-v : tie.Need-overflow-add-v invariant_loop decreases_loop
+add-v : tie.Need-overflow_add-v invariant_loop decreases_loop
 add-v c = omega arith
 
-loop_less : tie.Need-loop-smaller invariant_loop decreases_loop
+loop_less : tie.Need-loop-v-smaller invariant_loop decreases_loop
 loop_less c = omega arith
 
-loop_again : tie.Need-loop-preserved invariant_loop decreases_loop
+loop_again : tie.Need-loop-v-preserved invariant_loop decreases_loop
 loop_again c =
-    let l = c.before.before.before.loop in
-    let sets = c.before.before.before.before.before.before.before.args.sets.now in
-    let all = c.before.before.before.before.union.result in
+    let l = c.loop-v in
+    let sets = c.args.sets.now in
+    let all = c.union-all.result in
     let done = After sets all in
     let start : ℕ → ℕ = λ u. get_or sets u 0 in
     let picks : Bool → ℕ = λ b. cond b all (start l.v) in
-    let e = c.before.has.ensures in (
+    let e = c.has.ensures in (
       omega arith,
-      ⊎_elim
-          (λ w.
-          subst (Filled done start 24 _) (sym w.1)
-          (filled_set done start 24 l.sets l.v (omega arith) l.invariant.1 all (ap picks (sym w.0.taken ∙ e))))
-          (λ w.
-          subst (Filled done start 24 _) (sym w.1)
-          (filled_kept done start 24 l.sets l.v (omega arith) l.invariant.1 (ap picks (sym w.0.left ∙ e))))
-          c.if1.branch,
+      elim c.if-has.branch [ then-has w ↦ subst (Filled done start 24 _) (sym w.sets-is)
+          (filled_set done start 24 l.sets l.v (omega arith) l.invariant.1 all (ap picks (sym w.if-has.true ∙ e)))
+ | else-has w ↦ subst (Filled done start 24 _) (sym w.sets-is)
+          (filled_kept done start 24 l.sets l.v (omega arith) l.invariant.1 (ap picks (sym w.if-has.false ∙ e))) ],
     )
 
-same_length : tie.Need-same-length invariant_loop decreases_loop
-same_length c = c.before.loop.invariant.1.long ∙ sym c.before.before.before.before.before.requires
+same_length : tie.Need-shape_of-sets invariant_loop decreases_loop
+same_length c = c.loop-v.invariant.1.long ∙ sym c.requires
 
 returns : tie.Need-returns invariant_loop decreases_loop
 returns c =
     record {
-      all = c.before.before.union.result;
-      union = c.before.before.union.ensures;
-      at = λ v h. c.before.loop.invariant.1.done v (omega arith);
+      all = c.union-all.result;
+      union = c.union-all.ensures;
+      at = λ v h. c.loop-v.invariant.1.done v (omega arith);
     }
 
 pub merge_spec : {M : Type 1} → statement M
@@ -84,7 +78,7 @@ merge_spec =
     (tie.spec
     invariant_loop
     decreases_loop
-    union-requires
+    (λ c κs. search rules)
     loop_holds
     has-requires
     mul-sets

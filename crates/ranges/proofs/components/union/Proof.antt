@@ -7,53 +7,50 @@ use Prim.Native.Nat.{ℕ, ◌≤◌, ◌-◌}
 use Rattle.ranges.specs.Sets.{UnionIs}
 use Rattle.ranges.proofs.Unions.{union_none, union_more, union_same}
 use Rattle.ranges.proofs.components.union.Statement.{statement}
+use Rattle.ranges.proofs.components.union.Lts.{then-has, else-has}
 use Rattle.ranges.proofs.components.union.Tie as tie
 
-abbrev invariant_loop : tie.invariant-loop
+abbrev invariant_loop : tie.invariant-loop-v
 invariant_loop sets these all₀ v₀ all v = (v ≤ 24) × UnionIs sets these v all
 
-abbrev decreases_loop : tie.decreases-loop
+abbrev decreases_loop : tie.decreases-loop-v
 decreases_loop sets these all₀ v₀ all v = 24 - v
 
-loop_holds : tie.Need-loop-init invariant_loop decreases_loop
-loop_holds c = (omega arith, union_none c.before.args.sets.now c.before.args.these)
+loop_holds : tie.Need-loop-v-init invariant_loop decreases_loop
+loop_holds c = (omega arith, union_none c.args.sets.now c.args.these)
 
 has-requires : tie.Need-has-requires invariant_loop decreases_loop
 has-requires c κs = omega arith
 
-mul-all : tie.Need-overflow-mul-all invariant_loop decreases_loop
+mul-all : tie.Need-offset_bounds-sets-v invariant_loop decreases_loop
 mul-all c = omega arith
 
-shared-slice-read-all : tie.Need-shared-slice-read-all invariant_loop decreases_loop
+shared-slice-read-all : tie.Need-bounds-sets-v invariant_loop decreases_loop
 shared-slice-read-all c = omega arith
 
-add-v : tie.Need-overflow-add-v invariant_loop decreases_loop
+add-v : tie.Need-overflow_add-v invariant_loop decreases_loop
 add-v c = omega arith
 
-loop_less : tie.Need-loop-smaller invariant_loop decreases_loop
+loop_less : tie.Need-loop-v-smaller invariant_loop decreases_loop
 loop_less c = omega arith
 
-loop_again : tie.Need-loop-preserved invariant_loop decreases_loop
+loop_again : tie.Need-loop-v-preserved invariant_loop decreases_loop
 loop_again c =
-    let a = c.before.before.before.before.before.args in
-    let l = c.before.before.before.loop in
-    let e = sym c.before.has.ensures in (
+    let a = c.args in
+    let l = c.loop-v in
+    let e = sym c.has.ensures in (
       omega arith,
-      ⊎_elim
-          (λ w.
-          subst (UnionIs a.sets.now a.these _) (sym w.2)
-          (union_more a.sets.now a.these l.v l.all l.invariant.1 (e ∙ w.0.taken)))
-          (λ w.
-          subst (UnionIs a.sets.now a.these _) (sym w.1)
-          (union_same a.sets.now a.these l.v l.all l.invariant.1 (e ∙ w.0.left)))
-          c.if1.branch,
+      elim c.if-has.branch [ then-has w ↦ subst (UnionIs a.sets.now a.these _) (sym w.all-is)
+          (union_more a.sets.now a.these l.v l.all l.invariant.1 (e ∙ w.if-has.true))
+ | else-has w ↦ subst (UnionIs a.sets.now a.these _) (sym w.all-is)
+          (union_same a.sets.now a.these l.v l.all l.invariant.1 (e ∙ w.if-has.false)) ],
     )
 
 returns : tie.Need-returns invariant_loop decreases_loop
 returns c =
-    let a = c.before.before.before.args in
-    let e : c.before.loop.v ≡ 24 = omega arith in
-    subst (λ (n : ℕ). UnionIs a.sets.now a.these n c.before.loop.all) e c.before.loop.invariant.1
+    let a = c.args in
+    let e : c.loop-v.v ≡ 24 = omega arith in
+    subst (λ (n : ℕ). UnionIs a.sets.now a.these n c.loop-v.all) e c.loop-v.invariant.1
 
 pub union_spec : {M : Type 1} → statement M
 union_spec =

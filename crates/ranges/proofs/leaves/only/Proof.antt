@@ -8,14 +8,13 @@ use lib.Pow.{shl_exact}
 use Rattle.ranges.proofs.leaves.only.Statement.{statement}
 use Rattle.ranges.proofs.leaves.only.Tie as tie
 
-cast-result : tie.Need-cast-result
-cast-result c = search rules
-
-shl-result : tie.Need-shl-result
-shl-result c = search rules
-
 returns : tie.Need-returns
 returns c = shl_exact 1 c.args.v 32 (omega arith) (omega arith) ∙ one-mul (2 ^ c.args.v)
 
 pub only_spec : {M : Type 1} → statement M
-only_spec = tie.close (tie.spec cast-result shl-result returns)
+only_spec =
+    tie.close
+    (tie.spec
+    (λ c. search rules)
+    (λ c. search rules)
+    returns)

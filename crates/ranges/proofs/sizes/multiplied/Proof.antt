@@ -22,36 +22,30 @@ use Rattle.ranges.proofs.SizeLaws.{
 use Rattle.ranges.proofs.sizes.multiplied.Statement.{statement}
 use Rattle.ranges.proofs.sizes.multiplied.Tie as tie
 
-abbrev invariant_loop : tie.invariant-loop
+abbrev invariant_loop : tie.invariant-loop-v
 invariant_loop variables truths tops all₀ v₀ all v =
     (v ≤ variables) × Multiplied (sizes (take variables tops) truths) (product_of (sizes (take variables tops) truths)) v all
 
-abbrev decreases_loop : tie.decreases-loop
+abbrev decreases_loop : tie.decreases-loop-v
 decreases_loop variables truths tops all₀ v₀ all v = variables - v
 
 -- the factors
 abbrev these : tie.Start invariant_loop decreases_loop → List ℕ
-these c = sizes (take c.args.variables c.args.t1) c.args.truths
+these c = sizes (take c.args.variables c.args.tops) c.args.truths
 
-enough : (c : tie.Start invariant_loop decreases_loop) → c.args.variables ≤ length c.args.t1
+enough : (c : tie.Start invariant_loop decreases_loop) → c.args.variables ≤ length c.args.tops
 enough c = omega arith
 
-loop_holds : tie.Need-loop-init invariant_loop decreases_loop
+loop_holds : tie.Need-loop-v-init invariant_loop decreases_loop
 loop_holds c = (omega arith, record { most = omega arith; left = one-mul (product_of (these c)) })
 
-array-read-wide : tie.Need-array-read-wide invariant_loop decreases_loop
+array-read-wide : tie.Need-bounds-tops-v invariant_loop decreases_loop
 array-read-wide c = omega arith
-
-wide-requires : tie.Need-wide-requires invariant_loop decreases_loop
-wide-requires c κs = search rules
 
 times-requires : tie.Need-times-requires invariant_loop decreases_loop
 times-requires c κs =
     let s = c.before.before.before in
-    subst (λ (n : ℕ). 1 ≤ n) (sym c.wide.ensures) (s.requires.2 c.before.before.loop.v (omega arith))
-
-enum_told : tie.Need-enum-told invariant_loop decreases_loop
-enum_told c = search rules
+    subst (λ (n : ℕ). 1 ≤ n) (sym c.wide.ensures) (s.requires.2 c.loop-v.v (omega arith))
 
 -- the next factor is the top that was read
 module _ (c : tie.After-wide invariant_loop decreases_loop) where
@@ -59,55 +53,52 @@ module _ (c : tie.After-wide invariant_loop decreases_loop) where
   start = c.before.before.before
 
   abbrev v : ℕ
-  v = c.before.before.loop.v
+  v = c.loop-v.v
 
   more : v < length (these start)
-  more = sizes_more start.args.t1 start.args.variables start.args.truths (enough start) v (omega arith)
+  more = sizes_more start.args.tops start.args.variables start.args.truths (enough start) v (omega arith)
 
   factor : get_or (these start) v 0 ≡ c.wide.result
   factor =
-      sizes_at start.args.t1 start.args.variables start.args.truths (enough start) v (omega arith)
+      sizes_at start.args.tops start.args.variables start.args.truths (enough start) v (omega arith)
       ∙ sym c.wide.ensures
 
-returns : tie.Need-returns invariant_loop decreases_loop
+returns : tie.Need-returns-in-Big invariant_loop decreases_loop
 returns c =
-    let w = c.before.before.before in
+    let w = c.before.before in
     let s = w.before.before.before in
-    let l = w.before.before.loop in
+    let l = w.loop-v in
     multiplied_big (these s) _ l.v l.all l.invariant.1 w.wide.result (more w) (factor w)
-    (sizes_positive s.args.t1 s.args.variables s.args.truths (enough s) s.requires.2)
-    (subst (ProductIs (l.all * w.wide.result)) c.enum_told.given.1 c.before.before.times.ensures)
+    (sizes_positive s.args.tops s.args.variables s.args.truths (enough s) s.requires.2)
+    (subst (ProductIs (l.all * w.wide.result)) c.in-Big.is c.times.ensures)
 
-enum-known-p : tie.Need-enum-known-p invariant_loop decreases_loop
-enum-known-p c = search rules
-
-add-v : tie.Need-overflow-add-v invariant_loop decreases_loop
+add-v : tie.Need-overflow_add-v invariant_loop decreases_loop
 add-v c = omega arith
 
-loop_less : tie.Need-loop-smaller invariant_loop decreases_loop
+loop_less : tie.Need-loop-v-smaller invariant_loop decreases_loop
 loop_less c = omega arith
 
-loop_again : tie.Need-loop-preserved invariant_loop decreases_loop
+loop_again : tie.Need-loop-v-preserved invariant_loop decreases_loop
 loop_again c =
-    let w = c.before.before.before.before in
-    let l = w.before.before.loop in (
+    let w = c.before.before in
+    let l = w.loop-v in (
       omega arith,
       multiplied_next (these w.before.before.before) _ l.v l.all l.invariant.1 w.wide.result (more w) (factor w)
-          c.before.p.given.0.0
-          (subst (ProductIs (l.all * w.wide.result)) c.before.p.given.1 c.before.before.before.times.ensures),
+          c.in-Of.p
+          (subst (ProductIs (l.all * w.wide.result)) c.in-Of.is c.times.ensures),
     )
 
 doubled-requires : tie.Need-doubled-requires invariant_loop decreases_loop
-doubled-requires c κs = c.before.loop.invariant.1.most
+doubled-requires c κs = c.loop-v.invariant.1.most
 
-returns_2 : tie.Need-returns-2 invariant_loop decreases_loop
+returns_2 : tie.Need-returns invariant_loop decreases_loop
 returns_2 c =
     let s = c.before.before.before in
-    let l = c.before.before.loop in
+    let l = c.loop-v in
     let e : l.v ≡ s.args.variables = omega arith in
     subst (λ (n : ℕ). ProductIs n c.doubled.result)
     (ap (λ (xs : List ℕ). l.all * product_of xs)
-    (sym (sizes_rest s.args.t1 s.args.variables s.args.truths (enough s)))
+    (sym (sizes_rest s.args.tops s.args.variables s.args.truths (enough s)))
     ∙ subst (λ (i : ℕ). l.all * product_of (drop i (these s)) ≡ product_of (these s)) e l.invariant.1.left)
     c.doubled.ensures
 
@@ -119,11 +110,11 @@ multiplied_spec =
     decreases_loop
     loop_holds
     array-read-wide
-    wide-requires
+    (λ c κs. search rules)
     times-requires
-    enum_told
+    (λ c. search rules)
     returns
-    enum-known-p
+    (λ c. search rules)
     add-v
     loop_less
     loop_again

@@ -9,49 +9,57 @@ use Rattle.ranges.specs.Sets.{in_set}
 use Rattle.theorems.proofs.Fits.{how_many_le}
 use Rattle.ranges.proofs.TopLaws.{how_many_next}
 use Rattle.ranges.proofs.sizes.rank.Statement.{statement}
+use Rattle.ranges.proofs.sizes.rank.Lts.{then-has, else-has}
 use Rattle.ranges.proofs.sizes.rank.Tie as tie
 
-abbrev invariant_loop : tie.invariant-loop
+abbrev invariant_loop : tie.invariant-loop-u
 invariant_loop component v rank₀ u₀ rank u = (u ≤ v) × (rank ≡ suc (how_many (in_set component) u))
 
-abbrev decreases_loop : tie.decreases-loop
+abbrev decreases_loop : tie.decreases-loop-u
 decreases_loop component v rank₀ u₀ rank u = v - u
 
-loop_holds : tie.Need-loop-init invariant_loop decreases_loop
+loop_holds : tie.Need-loop-u-init invariant_loop decreases_loop
 loop_holds c = (omega arith, refl)
 
 has-requires : tie.Need-has-requires invariant_loop decreases_loop
 has-requires c κs = omega arith
 
-add-rank : tie.Need-overflow-add-rank invariant_loop decreases_loop
+add-rank : tie.Need-overflow_add-rank invariant_loop decreases_loop
 add-rank c =
-    let f = in_set c.before.before.before.before.args.component in
-    omega (arith, how_many_le f c.before.before.before.loop.u)
+    let f = in_set c.args.component in
+    omega (arith, how_many_le f c.loop-u.u)
 
-add-u : tie.Need-overflow-add-u invariant_loop decreases_loop
+add-u : tie.Need-overflow_add-u invariant_loop decreases_loop
 add-u c = omega arith
 
-loop_less : tie.Need-loop-smaller invariant_loop decreases_loop
+loop_less : tie.Need-loop-u-smaller invariant_loop decreases_loop
 loop_less c = omega arith
 
-loop_again : tie.Need-loop-preserved invariant_loop decreases_loop
+loop_again : tie.Need-loop-u-preserved invariant_loop decreases_loop
 loop_again c =
-    let f = in_set c.before.before.before.before.args.component in
-    let u = c.before.before.before.loop.u in
-    let e = sym c.before.has.ensures in (
+    let f = in_set c.args.component in
+    let u = c.loop-u.u in
+    let e = sym c.has.ensures in (
       omega arith,
-      ⊎_elim
-          (λ w. omega (arith, how_many_next f u true (e ∙ w.0.taken)))
-          (λ w. omega (arith, how_many_next f u false (e ∙ w.0.left)))
-          c.if1.branch,
+      elim c.if-has.branch [ then-has w ↦ omega (arith, how_many_next f u true (e ∙ w.if-has.true))
+ | else-has w ↦ omega (arith, how_many_next f u false (e ∙ w.if-has.false)) ],
     )
 
 returns : tie.Need-returns invariant_loop decreases_loop
 returns c =
-    let e : c.before.loop.u ≡ c.before.before.args.v = omega arith in
-    c.before.loop.invariant.1 ∙ ap (λ (n : ℕ). suc (how_many (in_set c.before.before.args.component) n)) e
+    let e : c.loop-u.u ≡ c.args.v = omega arith in
+    c.loop-u.invariant.1 ∙ ap (λ (n : ℕ). suc (how_many (in_set c.args.component) n)) e
 
 pub rank_spec : {M : Type 1} → statement M
 rank_spec =
     tie.close
-    (tie.spec invariant_loop decreases_loop loop_holds has-requires add-rank add-u loop_less loop_again returns)
+    (tie.spec
+    invariant_loop
+    decreases_loop
+    loop_holds
+    has-requires
+    add-rank
+    add-u
+    loop_less
+    loop_again
+    returns)

@@ -8,20 +8,23 @@ use Prim.Native.Nat.{◌*◌, ◌≤◌}
 use Rattle.ranges.proofs.sizes.times.Statement.{statement}
 use Rattle.ranges.proofs.sizes.times.Tie as tie
 
-div-if1 : tie.Need-div-if1
-div-if1 c = search rules
+small : (c : tie.Else-size-product) → c.args.product * c.args.size ≤ 1000000000000000000
+small c = (le-div_iff_mul-le c.requires).0 c.if-size-product.false
 
-small : (c : tie.Else1) → c.before.args.product * c.before.args.size ≤ 1000000000000000000
-small c = (le-div_iff_mul-le c.before.pre).0 c.if1.left
-
-mul-t6 : tie.Need-mul-t6
+mul-t6 : tie.Need-overflow_mul-result
 mul-t6 c = omega (arith, small c)
 
-returns : tie.Need-returns
-returns c = (div-lt_iff_lt-mul c.before.pre).0 c.if1.taken
+returns : tie.Need-returns-then-size-product
+returns c = (div-lt_iff_lt-mul c.requires).0 c.if-size-product.true
 
-returns_2 : tie.Need-returns-2
+returns_2 : tie.Need-returns-else-size-product
 returns_2 c = (refl, small c)
 
 pub times_spec : {M : Type 1} → statement M
-times_spec = tie.close (tie.spec div-if1 mul-t6 returns returns_2)
+times_spec =
+    tie.close
+    (tie.spec
+    (λ c. search rules)
+    mul-t6
+    returns
+    returns_2)
