@@ -15,280 +15,274 @@ use Rattle.walk.proofs.Walking.{lanes_few, loop_falls, falsifies, inside}
 use Rattle.walk.proofs.walk_in.Statement.{statement}
 use Rattle.walk.proofs.walk_in.Tie as tie
 
-abbrev invariant_loop : tie.invariant-loop
+abbrev invariant_loop : tie.invariant-loop-tried
 invariant_loop table budget positions branches cells₀ values₀ shape parts begun starts odometer₀ tried₀ from₀ cells values odometer tried from =
     ((root : ℕ) (o : Odometer) → Begins table (record { shape = shape; root = root; parts = parts }) o positions branches cells₀ begun
     → (q : ℕ) × Walking table shape root o parts positions branches budget cells odometer tried from q)
     × (length cells ≡ length cells₀) × (length values ≡ length values₀)
 
-abbrev decreases_loop : tie.decreases-loop
+abbrev decreases_loop : tie.decreases-loop-tried
 decreases_loop table budget positions branches cells₀ values₀ shape parts begun starts odometer₀ tried₀ from₀ cells values odometer tried from = budget - tried
 
-begin-requires : tie.Need-begin-requires invariant_loop decreases_loop
-begin-requires c κs = let p = c.before.before.before.before.before.before.before.before.before.before.requires in (p.0, p.1, p.2, p.3)
+begin-requires : tie.Need-begin-begun-requires invariant_loop decreases_loop
+begin-requires c κs = let p = c.requires in (p.0, p.1, p.2, p.3)
 
-loop_holds : tie.Need-loop-init invariant_loop decreases_loop
+loop_holds : tie.Need-loop-tried-init invariant_loop decreases_loop
 loop_holds c = (λ root o b. (0, b.walking _), refl, refl)
 
 evaluate-requires : tie.Need-evaluate-requires invariant_loop decreases_loop
 evaluate-requires c κs =
-    let s = c.before.before.before.before.before.before.before.before.before.before.before.before.before.before.before.before.before.before.before.before.before.before.before in
+    let s = c.before.before.before.before.before.before.before.before.before.before.before.before.before.before.before.before.before.before.before.before.before.before in
     let p = s.requires in
-    let b = c.before.before.before.before.before.before.before.before.before.before.before.before.begin in
-    let l = c.before.before.before.loop in
+    let b = c.begin-begun in
+    let l = c.loop-tried in
     let e = b.ensures in
     let w = (l.invariant.0 s.args.plan.root s.args.start e).1 in
-    let bl = b.auto.1.1.1.1.0 in
-    let cl = b.auto.1.1.1.1.1.0 in
+    let bl = b.auto.branches in
+    let cl = b.auto.cells in
     let k = l.invariant.1 in
     let few = w.from_few in
     let n = p.0.table_in_is.few_nodes in
     (omega arith, few, n, p.0.parts_are.parted.chunks_few, omega arith, ready_all _ _ _ _ _ _ _ _ e.setting)
 
-sub-lanes-in : tie.Need-overflow-sub-lanes-in invariant_loop decreases_loop
-sub-lanes-in c = omega (arith, c.before.before.before.before.before.loop-test.true)
+sub-lanes-in : tie.Need-overflow_sub-budget invariant_loop decreases_loop
+sub-lanes-in c = omega (arith, c.loop-tried-test.true)
 
-lanes-in-requires : tie.Need-lanes-in-requires invariant_loop decreases_loop
-lanes-in-requires c κs = search rules
-
-first-false-requires : tie.Need-first-false-requires invariant_loop decreases_loop
+first-false-requires : tie.Need-first_false-lane-requires invariant_loop decreases_loop
 first-false-requires c κs =
-    let s = c.before.before.before.before.before.before.before.before.before.before.before.before.before.before.before.before.before.before.before.before.before.before.before.before.before.before.before.before in
+    let s = c.before.before.before.before.before.before.before.before.before.before.before.before.before.before.before.before.before.before.before.before.before.before.before.before.before.before in
     let p = s.requires in
-    let b = c.before.before.before.before.before.before.before.before.before.before.before.before.before.before.before.before.before.begin in
-    let l = c.before.before.before.before.before.before.before.before.loop in
+    let b = c.begin-begun in
+    let l = c.loop-tried in
     let e = b.ensures in
     let w = (l.invariant.0 s.args.plan.root s.args.start e).1 in
-    let d = c.before.before.before.before.evaluate.auto.1.1.1.1.0 in
-    let cl = b.auto.1.1.1.1.1.0 in
+    let d = c.evaluate.auto.cells in
+    let cl = b.auto.cells in
     let k = l.invariant.1 in
     let a = p.0.parts_are.parted in
     let f = a.lanes_fit in
     let g = a.chunks_few in
-    let m = (lanes_few _ _ _ c.before.lanes-in.ensures).0 in
-    let z = lanes_fit (16 * s.args.plan.parts.chunks) _ s.args.plan.shape.nodes (length s.args.cells.now) b.result.root c.before.lanes-in.result s.args.plan.parts.lanes e.root_is
+    let m = (lanes_few _ _ _ c.lanes_in-many.ensures).0 in
+    let z = lanes_fit (16 * s.args.plan.parts.chunks) _ s.args.plan.shape.nodes (length s.args.cells.now) b.result.root c.lanes_in-many.result s.args.plan.parts.lanes e.root_is
     (inside _ _ _ _ _ _ _ _ e.setting s.args.plan.root p.0.root_in.below) p.3 m f in
     (omega arith, omega arith)
 
-values-of-requires : tie.Need-values-of-requires invariant_loop decreases_loop
+values-of-requires : tie.Need-values_of-requires invariant_loop decreases_loop
 values-of-requires c κs =
-    let s = c.before.before.before.before.before.before.before.before.before.before.before.before.before.before.before.before.before.before.before.before.before.before.before.before.before.before.before.before.before.before.before.before.before in
+    let s = c.before.before.before.before.before.before.before.before.before.before.before.before.before.before.before.before.before.before.before.before.before.before.before.before.before.before.before.before.before in
     let p = s.requires in
-    let b = c.before.before.before.before.before.before.before.before.before.before.before.before.before.before.before.before.before.before.before.before.before.before.begin in
-    let l = c.before.before.before.before.before.before.before.before.before.before.before.before.before.loop in
+    let b = c.begin-begun in
+    let l = c.loop-tried in
     let e = b.ensures in
     let w = (l.invariant.0 s.args.plan.root s.args.start e).1 in
-    let d = c.before.before.before.before.before.before.before.before.before.evaluate.auto.1.1.1.1.0 in
-    let pl = b.auto.1.1.1.0 in
-    let cl = b.auto.1.1.1.1.1.0 in
+    let d = c.evaluate.auto.cells in
+    let pl = b.auto.positions in
+    let cl = b.auto.cells in
     let k = l.invariant.1 in
     let v = l.invariant.2 in
     let a = p.0.parts_are.parted in
     let f = a.lanes_fit in
-    let m = (lanes_few _ _ _ c.before.before.before.before.before.before.lanes-in.ensures).0 in
-    let t = c.before.before.before.if1.true in
+    let m = (lanes_few _ _ _ c.lanes_in-many.ensures).0 in
+    let t = c.if-lane-many.true in
     (in_order _ _ p.0.table_in_is _ _ _ _ e.setting.arranged (omega arith), p.0.table_in_is.few_nodes, a.chunks_few, omega arith, omega arith, omega arith)
 
-add-t42 : tie.Need-overflow-add-t42 invariant_loop decreases_loop
+add-t42 : tie.Need-overflow_add-result invariant_loop decreases_loop
 add-t42 c =
-    let inside = c.before.before.before.before.before.before.if1.true in
-    let m = (lanes_few _ _ _ c.before.before.before.before.before.before.before.before.before.lanes-in.ensures).1 in
-    let test = c.before.before.before.before.before.before.before.before.before.before.before.before.before.before.before.loop-test.true in
-    omega (arith, c.before.before.before.before.before.before.before.before.before.before.before.before.before.before.before.before.before.before.before.before.before.before.before.before.before.before.before.before.before.before.before.before.before.before.before.before.ranges.budget)
+    let inside = c.if-lane-many.true in
+    let m = (lanes_few _ _ _ c.lanes_in-many.ensures).1 in
+    let test = c.loop-tried-test.true in
+    omega (arith, c.ranges.budget)
 
-add-t43 : tie.Need-overflow-add-t43 invariant_loop decreases_loop
+add-t43 : tie.Need-overflow_add-result-then-lane-many invariant_loop decreases_loop
 add-t43 c =
-    let inside = c.before.before.before.before.before.before.if1.true in
-    let m = (lanes_few _ _ _ c.before.before.before.before.before.before.before.before.before.lanes-in.ensures).1 in
-    let test = c.before.before.before.before.before.before.before.before.before.before.before.before.before.before.before.loop-test.true in
-    omega (arith, c.before.before.before.before.before.before.before.before.before.before.before.before.before.before.before.before.before.before.before.before.before.before.before.before.before.before.before.before.before.before.before.before.before.before.before.before.ranges.budget)
+    let inside = c.if-lane-many.true in
+    let m = (lanes_few _ _ _ c.lanes_in-many.ensures).1 in
+    let test = c.loop-tried-test.true in
+    omega (arith, c.ranges.budget)
 
-same_length : tie.Need-same-length invariant_loop decreases_loop
-same_length c = c.before.before.before.before.before.before.before.before.before.before.before.before.before.before.before.before.before.before.before.before.before.before.before.before.before.begin.auto.1.1.1.0
+same_length : tie.Need-shape_of-positions-then-lane-many invariant_loop decreases_loop
+same_length c = c.begin-begun.auto.positions
 
-same_length_2 : tie.Need-same-length-2 invariant_loop decreases_loop
-same_length_2 c = c.before.before.before.before.before.before.before.before.before.before.before.before.before.before.before.before.before.before.before.before.before.before.before.before.before.begin.auto.1.1.1.1.0
+same_length_2 : tie.Need-shape_of-branches-then-lane-many invariant_loop decreases_loop
+same_length_2 c = c.begin-begun.auto.branches
 
-same_length_3 : tie.Need-same-length-3 invariant_loop decreases_loop
-same_length_3 c = c.before.before.before.before.before.before.before.before.before.before.before.before.evaluate.auto.1.1.1.1.0 ∙ c.before.before.before.before.before.before.before.before.before.before.before.before.before.before.before.before.loop.invariant.1 ∙ c.before.before.before.before.before.before.before.before.before.before.before.before.before.before.before.before.before.before.before.before.before.before.before.before.before.begin.auto.1.1.1.1.1.0
+same_length_3 : tie.Need-shape_of-cells-then-lane-many invariant_loop decreases_loop
+same_length_3 c = c.evaluate.auto.cells ∙ c.loop-tried.invariant.1 ∙ c.begin-begun.auto.cells
 
-same_length_4 : tie.Need-same-length-4 invariant_loop decreases_loop
-same_length_4 c = c.before.before.values_of.auto.1.1.1.1.1.0 ∙ c.before.before.before.before.before.before.before.before.before.before.before.before.before.before.before.before.loop.invariant.2
+same_length_4 : tie.Need-shape_of-values-then-lane-many invariant_loop decreases_loop
+same_length_4 c = c.values_of.auto.values ∙ c.loop-tried.invariant.2
 
-returns : tie.Need-returns invariant_loop decreases_loop
+returns : tie.Need-returns-then-lane-many invariant_loop decreases_loop
 returns c =
-    let s = c.before.before.before.before.before.before.before.before.before.before.before.before.before.before.before.before.before.before.before.before.before.before.before.before.before.before.before.before.before.before.before.before.before.before.before.before in
+    let s = c.before.before.before.before.before.before.before.before.before.before.before.before.before.before.before.before.before.before.before.before.before.before.before.before.before.before.before.before.before.before.before.before in
     let p = s.requires in
-    let b = c.before.before.before.before.before.before.before.before.before.before.before.before.before.before.before.before.before.before.before.before.before.before.before.before.before.begin in
-    let l = c.before.before.before.before.before.before.before.before.before.before.before.before.before.before.before.before.loop in
+    let b = c.begin-begun in
+    let l = c.loop-tried in
     let e = b.ensures in
     let w = (l.invariant.0 s.args.plan.root s.args.start e).1 in
-    let many = lanes_few _ _ _ c.before.before.before.before.before.before.before.before.before.lanes-in.ensures in
-    let ev = c.before.before.before.before.before.before.before.before.before.before.before.before.evaluate.ensures in
-    let going = c.before.before.before.before.before.before.before.before.before.before.before.before.before.before.before.loop-test.true in
-    let vl = c.before.before.values_of.auto.1.1.1.1.1.0 ∙ l.invariant.2 in
+    let many = lanes_few _ _ _ c.lanes_in-many.ensures in
+    let ev = c.evaluate.ensures in
+    let going = c.loop-tried-test.true in
+    let vl = c.values_of.auto.values ∙ l.invariant.2 in
     let room = p.4 in
     let q = (l.invariant.0 s.args.plan.root s.args.start e).0 in
     falsifies _ _ _ _ _ _ _ _ e.setting q _ (all_fresh _ _ _ _ _ _ _ _ e.setting _ _ _ _ _ q w _ ev) _ _ many.0
-    (root_found _ _ _ _ _ e.root_is c.before.before.before.before.before.before.before.first-false.ensures) l.tried (w.going going) w.held _ w.block_inside many.1
-    c.before.before.before.before.before.before.if1.true _ (omega arith) c.before.before.values_of.ensures
+    (root_found _ _ _ _ _ e.root_is c.first_false-lane.ensures) l.tried (w.going going) w.held _ w.block_inside many.1
+    c.if-lane-many.true _ (omega arith) c.values_of.ensures
 
-add-tried : tie.Need-overflow-add-tried invariant_loop decreases_loop
+add-tried : tie.Need-overflow_add-tried invariant_loop decreases_loop
 add-tried c =
-    let m = (lanes_few _ _ _ c.before.before.before.lanes-in.ensures).1 in
-    let test = c.before.before.before.before.before.before.before.before.before.loop-test.true in
-    omega (arith, c.before.before.before.before.before.before.before.before.before.before.before.before.before.before.before.before.before.before.before.before.before.before.before.before.before.before.before.before.before.before.ranges.budget)
+    let m = (lanes_few _ _ _ c.lanes_in-many.ensures).1 in
+    let test = c.loop-tried-test.true in
+    omega (arith, c.ranges.budget)
 
-next_requires : tie.Need-next-requires invariant_loop decreases_loop
+next_requires : tie.Need-next-step-requires invariant_loop decreases_loop
 next_requires c κs =
-    let s = c.before.before.before.before.before.before.before.before.before.before.before.before.before.before.before.before.before.before.before.before.before.before.before.before.before.before.before.before.before.before in
+    let s = c.before.before.before.before.before.before.before.before.before.before.before.before.before.before.before.before.before.before.before.before.before.before.before.before.before.before.before.before in
     let p = s.requires in
-    let b = c.before.before.before.before.before.before.before.before.before.before.before.before.before.before.before.before.before.before.before.begin in
-    let l = c.before.before.before.before.before.before.before.before.before.before.loop in
+    let b = c.begin-begun in
+    let l = c.loop-tried in
     let e = b.ensures in
     let w = (l.invariant.0 s.args.plan.root s.args.start e).1 in
     w.turns
 
-same-length-5 : tie.Need-same-length-5 invariant_loop decreases_loop
-same-length-5 c = c.before.before.before.before.before.before.before.before.before.before.before.before.before.before.before.before.before.before.before.before.before.before.begin.auto.1.1.1.0
+same-length-5 : tie.Need-shape_of-positions-then-step invariant_loop decreases_loop
+same-length-5 c = c.begin-begun.auto.positions
 
-same-length-6 : tie.Need-same-length-6 invariant_loop decreases_loop
-same-length-6 c = c.before.before.before.before.before.before.before.before.before.before.before.before.before.before.before.before.before.before.before.before.before.before.begin.auto.1.1.1.1.0
+same-length-6 : tie.Need-shape_of-branches-then-step invariant_loop decreases_loop
+same-length-6 c = c.begin-begun.auto.branches
 
-same-length-7 : tie.Need-same-length-7 invariant_loop decreases_loop
-same-length-7 c = c.before.before.before.before.before.before.before.before.before.evaluate.auto.1.1.1.1.0 ∙ c.before.before.before.before.before.before.before.before.before.before.before.before.before.loop.invariant.1 ∙ c.before.before.before.before.before.before.before.before.before.before.before.before.before.before.before.before.before.before.before.before.before.before.begin.auto.1.1.1.1.1.0
+same-length-7 : tie.Need-shape_of-cells-then-step invariant_loop decreases_loop
+same-length-7 c = c.evaluate.auto.cells ∙ c.loop-tried.invariant.1 ∙ c.begin-begun.auto.cells
 
-same-length-8 : tie.Need-same-length-8 invariant_loop decreases_loop
-same-length-8 c = c.before.before.before.before.before.before.before.before.before.before.before.before.before.loop.invariant.2
+same-length-8 : tie.Need-shape_of-values-then-step invariant_loop decreases_loop
+same-length-8 c = c.loop-tried.invariant.2
 
-returns_2 : tie.Need-returns-2 invariant_loop decreases_loop
+returns_2 : tie.Need-returns-then-step invariant_loop decreases_loop
 returns_2 c =
-    let s = c.before.before.before.before.before.before.before.before.before.before.before.before.before.before.before.before.before.before.before.before.before.before.before.before.before.before.before.before.before.before.before.before.before in
+    let s = c.before.before.before.before.before.before.before.before.before.before.before.before.before.before.before.before.before.before.before.before.before.before.before.before.before.before.before.before.before.before.before in
     let p = s.requires in
-    let b = c.before.before.before.before.before.before.before.before.before.before.before.before.before.before.before.before.before.before.before.before.before.before.begin in
-    let l = c.before.before.before.before.before.before.before.before.before.before.before.before.before.loop in
+    let b = c.begin-begun in
+    let l = c.loop-tried in
     let e = b.ensures in
     let w = (l.invariant.0 s.args.plan.root s.args.start e).1 in
-    let many = lanes_few _ _ _ c.before.before.before.before.before.before.lanes-in.ensures in
-    let ev = c.before.before.before.before.before.before.before.before.before.evaluate.ensures in
-    let going = c.before.before.before.before.before.before.before.before.before.before.before.before.loop-test.true in
-    let nx = c.before.before.next.ensures in
+    let many = lanes_few _ _ _ c.lanes_in-many.ensures in
+    let ev = c.evaluate.ensures in
+    let going = c.loop-tried-test.true in
+    let nx = c.next-step.ensures in
     let q = (l.invariant.0 s.args.plan.root s.args.start e).0 in
     ends_there _ _ _ _ _ _ _ _ e.setting _ _ _ _ _ q w _ ev going _ _ many.0 many.1 many.2
-    (root_found _ _ _ _ _ e.root_is c.before.before.before.before.first-false.ensures) c.before.before.before.if1.false _ nx c.if2.true _
+    (root_found _ _ _ _ _ e.root_is c.first_false-lane.ensures) c.if-lane-many.false _ nx c.if-step.true _
 
-add-lay-slow : tie.Need-overflow-add-lay-slow invariant_loop decreases_loop
+add-lay-slow : tie.Need-overflow_add-step invariant_loop decreases_loop
 add-lay-slow c =
-    let s = c.before.before.before.before.before.before.before.before.before.before.before.before.before.before.before.before.before.before.before.before.before.before.before.before.before.before.before.before.before.before.before.before.before.before.before.before.before in
+    let s = c.before.before.before.before.before.before.before.before.before.before.before.before.before.before.before.before.before.before.before.before.before.before.before.before.before.before.before.before.before.before.before.before.before.before in
     let p = s.requires in
-    let b = c.before.before.before.before.before.before.before.before.before.before.before.before.before.before.before.before.before.before.before.before.before.before.before.before.before.before.begin in
-    let l = c.before.before.before.before.before.before.before.before.before.before.before.before.before.before.before.before.before.loop in
+    let b = c.begin-begun in
+    let l = c.loop-tried in
     let e = b.ensures in
     let w = (l.invariant.0 s.args.plan.root s.args.start e).1 in
-    let t = turned_few _ _ _ _ _ _ _ _ e.setting _ _ _ _ _ _ w _ c.before.before.before.before.before.before.next.ensures c.before.before.before.before.if2.false in
+    let t = turned_few _ _ _ _ _ _ _ _ e.setting _ _ _ _ _ _ w _ c.next-step.ensures c.if-step.false in
     omega arith
 
-lay-slow-requires : tie.Need-lay-slow-requires invariant_loop decreases_loop
+lay-slow-requires : tie.Need-lay_slow-requires invariant_loop decreases_loop
 lay-slow-requires c κs =
-    let s = c.before.before.before.before.before.before.before.before.before.before.before.before.before.before.before.before.before.before.before.before.before.before.before.before.before.before.before.before.before.before.before.before.before.before.before.before.before.before in
+    let s = c.before.before.before.before.before.before.before.before.before.before.before.before.before.before.before.before.before.before.before.before.before.before.before.before.before.before.before.before.before.before.before.before.before.before.before in
     let p = s.requires in
-    let b = c.before.before.before.before.before.before.before.before.before.before.before.before.before.before.before.before.before.before.before.before.before.before.before.before.before.before.before.begin in
-    let l = c.before.before.before.before.before.before.before.before.before.before.before.before.before.before.before.before.before.before.loop in
+    let b = c.begin-begun in
+    let l = c.loop-tried in
     let e = b.ensures in
     let w = (l.invariant.0 s.args.plan.root s.args.start e).1 in
-    let t = turned_few _ _ _ _ _ _ _ _ e.setting _ _ _ _ _ _ w _ c.before.before.before.before.before.before.before.next.ensures c.before.before.before.before.before.if2.false in
-    let nx = c.before.before.before.before.before.before.before.next.ensures in
-    let d = c.before.before.before.before.before.before.before.before.before.before.before.before.before.before.evaluate.auto.1.1.1.1.0 in
-    let cl = b.auto.1.1.1.1.1.0 in
+    let t = turned_few _ _ _ _ _ _ _ _ e.setting _ _ _ _ _ _ w _ c.next-step.ensures c.if-step.false in
+    let nx = c.next-step.ensures in
+    let d = c.evaluate.auto.cells in
+    let cl = b.auto.cells in
     let k = l.invariant.1 in
     let u = digits_fit (16 * s.args.plan.parts.chunks) s.args.plan.shape.nodes (length s.args.cells.now) p.3 in
     (omega arith, p.0.parts_are.parted.chunks_few, nx.turning.digits_long, omega arith, digits_small _ nx.turning)
 
-add-number : tie.Need-overflow-add-number invariant_loop decreases_loop
+add-number : tie.Need-overflow_add-parts invariant_loop decreases_loop
 add-number c =
-    let s = c.before.before.before.before.before.before.before.before.before.before.before.before.before.before.before.before.before.before.before.before.before.before.before.before.before.before.before.before.before.before.before.before.before.before.before.before.before.before.before.before.before.before.before in
+    let s = c.before.before.before.before.before.before.before.before.before.before.before.before.before.before.before.before.before.before.before.before.before.before.before.before.before.before.before.before.before.before.before.before.before.before.before.before.before.before.before.before in
     let p = s.requires in
-    let b = c.before.before.before.before.before.before.before.before.before.before.before.before.before.before.before.before.before.before.before.before.before.before.before.before.before.before.before.before.before.before.before.before.begin in
-    let l = c.before.before.before.before.before.before.before.before.before.before.before.before.before.before.before.before.before.before.before.before.before.before.before.loop in
+    let b = c.begin-begun in
+    let l = c.loop-tried in
     let e = b.ensures in
     let w = (l.invariant.0 s.args.plan.root s.args.start e).1 in
-    let t = turned_few _ _ _ _ _ _ _ _ e.setting _ _ _ _ _ _ w _ c.before.before.before.before.before.before.before.before.before.before.before.before.next.ensures c.before.before.before.before.before.before.before.before.before.before.if2.false in
+    let t = turned_few _ _ _ _ _ _ _ _ e.setting _ _ _ _ _ _ w _ c.next-step.ensures c.if-step.false in
     omega arith
 
-mul-number : tie.Need-overflow-mul-number invariant_loop decreases_loop
+mul-number : tie.Need-offset_bounds-starts-parts invariant_loop decreases_loop
 mul-number c =
-    let s = c.before.before.before.before.before.before.before.before.before.before.before.before.before.before.before.before.before.before.before.before.before.before.before.before.before.before.before.before.before.before.before.before.before.before.before.before.before.before.before.before.before.before.before in
+    let s = c.before.before.before.before.before.before.before.before.before.before.before.before.before.before.before.before.before.before.before.before.before.before.before.before.before.before.before.before.before.before.before.before.before.before.before.before.before.before.before.before in
     let p = s.requires in
-    let b = c.before.before.before.before.before.before.before.before.before.before.before.before.before.before.before.before.before.before.before.before.before.before.before.before.before.before.before.before.before.before.before.before.begin in
-    let l = c.before.before.before.before.before.before.before.before.before.before.before.before.before.before.before.before.before.before.before.before.before.before.before.loop in
+    let b = c.begin-begun in
+    let l = c.loop-tried in
     let e = b.ensures in
     let w = (l.invariant.0 s.args.plan.root s.args.start e).1 in
-    let t = turned_few _ _ _ _ _ _ _ _ e.setting _ _ _ _ _ _ w _ c.before.before.before.before.before.before.before.before.before.before.before.before.next.ensures c.before.before.before.before.before.before.before.before.before.before.if2.false in
+    let t = turned_few _ _ _ _ _ _ _ _ e.setting _ _ _ _ _ _ w _ c.next-step.ensures c.if-step.false in
     omega arith
 
-array-read-number : tie.Need-array-read-number invariant_loop decreases_loop
+array-read-number : tie.Need-bounds-starts-parts invariant_loop decreases_loop
 array-read-number c =
-    let s = c.before.before.before.before.before.before.before.before.before.before.before.before.before.before.before.before.before.before.before.before.before.before.before.before.before.before.before.before.before.before.before.before.before.before.before.before.before.before.before.before.before.before.before in
+    let s = c.before.before.before.before.before.before.before.before.before.before.before.before.before.before.before.before.before.before.before.before.before.before.before.before.before.before.before.before.before.before.before.before.before.before.before.before.before.before.before.before in
     let p = s.requires in
-    let b = c.before.before.before.before.before.before.before.before.before.before.before.before.before.before.before.before.before.before.before.before.before.before.before.before.before.before.before.before.before.before.before.before.begin in
-    let l = c.before.before.before.before.before.before.before.before.before.before.before.before.before.before.before.before.before.before.before.before.before.before.before.loop in
+    let b = c.begin-begun in
+    let l = c.loop-tried in
     let e = b.ensures in
     let w = (l.invariant.0 s.args.plan.root s.args.start e).1 in
-    let t = turned_few _ _ _ _ _ _ _ _ e.setting _ _ _ _ _ _ w _ c.before.before.before.before.before.before.before.before.before.before.before.before.next.ensures c.before.before.before.before.before.before.before.before.before.before.if2.false in
+    let t = turned_few _ _ _ _ _ _ _ _ e.setting _ _ _ _ _ _ w _ c.next-step.ensures c.if-step.false in
     let long = e.setting.arranged.starts_long in
     omega arith
 
-number-requires : tie.Need-number-requires invariant_loop decreases_loop
-number-requires c κs = search rules
-
-loop_less : tie.Need-loop-smaller invariant_loop decreases_loop
+loop_less : tie.Need-loop-tried-smaller invariant_loop decreases_loop
 loop_less c =
-    let m = lanes_few _ _ _ c.before.before.before.before.before.before.before.before.before.before.before.before.before.before.before.before.before.lanes-in.ensures in
-    let some = c.before.before.before.before.before.before.before.before.before.before.before.before.before.before.before.before.before.before.before.before.before.before.before.before.before.before.before.before.before.before.before.before.before.before.before.before.before.before.before.before.before.before.before.before.requires.0.parts_are.parted.lanes_some in
-    let test = c.before.before.before.before.before.before.before.before.before.before.before.before.before.before.before.before.before.before.before.before.before.before.before.loop-test.true in
+    let m = lanes_few _ _ _ c.lanes_in-many.ensures in
+    let some = c.requires.0.parts_are.parted.lanes_some in
+    let test = c.loop-tried-test.true in
     loop_falls _ _ _ _ m some test
 
-loop_again : tie.Need-loop-preserved invariant_loop decreases_loop
+loop_again : tie.Need-loop-tried-preserved invariant_loop decreases_loop
 loop_again c =
-    let s = c.before.before.before.before.before.before.before.before.before.before.before.before.before.before.before.before.before.before.before.before.before.before.before.before.before.before.before.before.before.before.before.before.before.before.before.before.before.before.before.before.before.before.before.before in
-    let l = c.before.before.before.before.before.before.before.before.before.before.before.before.before.before.before.before.before.before.before.before.before.before.before.before.loop in
-    let many = lanes_few _ _ _ c.before.before.before.before.before.before.before.before.before.before.before.before.before.before.before.before.before.lanes-in.ensures in
-    let ev = c.before.before.before.before.before.before.before.before.before.before.before.before.before.before.before.before.before.before.before.before.evaluate.ensures in
-    let going = c.before.before.before.before.before.before.before.before.before.before.before.before.before.before.before.before.before.before.before.before.before.before.before.loop-test.true in
-    let nx = c.before.before.before.before.before.before.before.before.before.before.before.before.before.next.ensures in
-    let ls = c.before.before.before.before.before.lay-slow in (
+    let s = c.before.before.before.before.before.before.before.before.before.before.before.before.before.before.before.before.before.before.before.before.before.before.before.before.before.before.before.before.before.before.before.before.before.before.before.before.before.before.before.before.before in
+    let l = c.loop-tried in
+    let many = lanes_few _ _ _ c.lanes_in-many.ensures in
+    let ev = c.evaluate.ensures in
+    let going = c.loop-tried-test.true in
+    let nx = c.next-step.ensures in
+    let ls = c.lay_slow in (
       λ root o b.
           let w = l.invariant.0 root o b in (
             w.0 + 1,
             goes_on _ _ root o _ _ _ _ b.setting _ _ _ _ _ w.0 w.1 _ ev going _ _ many.0 many.1 many.2
-                (root_found _ _ _ _ _ b.root_is c.before.before.before.before.before.before.before.before.before.before.before.before.before.before.before.first-false.ensures) c.before.before.before.before.before.before.before.before.before.before.before.before.before.before.if1.false _ nx c.before.before.before.before.before.before.before.before.before.before.before.if2.false _ ls.ensures _
-                (c.number.ensures ∙ tail_start _ _ _ _ _ _ _ _ b.setting _ _ _ _ _ _ w.1 _ nx c.before.before.before.before.before.before.before.before.before.before.before.if2.false),
+                (root_found _ _ _ _ _ b.root_is c.first_false-lane.ensures) c.if-lane-many.false _ nx c.if-step.false _ ls.ensures _
+                (c.number-from.ensures ∙ tail_start _ _ _ _ _ _ _ _ b.setting _ _ _ _ _ _ w.1 _ nx c.if-step.false),
           ),
-      ls.auto.1.1.1.1.0 ∙ c.before.before.before.before.before.before.before.before.before.before.before.before.before.before.before.before.before.before.before.before.evaluate.auto.1.1.1.1.0 ∙ l.invariant.1,
+      ls.auto.cells ∙ c.evaluate.auto.cells ∙ l.invariant.1,
       l.invariant.2,
     )
 
-same-length-9 : tie.Need-same-length-9 invariant_loop decreases_loop
-same-length-9 c = c.before.before.before.before.before.before.before.before.before.before.begin.auto.1.1.1.0
+same-length-9 : tie.Need-shape_of-positions invariant_loop decreases_loop
+same-length-9 c = c.begin-begun.auto.positions
 
-same-length-10 : tie.Need-same-length-10 invariant_loop decreases_loop
-same-length-10 c = c.before.before.before.before.before.before.before.before.before.before.begin.auto.1.1.1.1.0
+same-length-10 : tie.Need-shape_of-branches invariant_loop decreases_loop
+same-length-10 c = c.begin-begun.auto.branches
 
-same-length-11 : tie.Need-same-length-11 invariant_loop decreases_loop
-same-length-11 c = c.before.loop.invariant.1 ∙ c.before.before.before.before.before.before.before.before.before.before.begin.auto.1.1.1.1.1.0
+same-length-11 : tie.Need-shape_of-cells invariant_loop decreases_loop
+same-length-11 c = c.loop-tried.invariant.1 ∙ c.begin-begun.auto.cells
 
-same-length-12 : tie.Need-same-length-12 invariant_loop decreases_loop
-same-length-12 c = c.before.loop.invariant.2
+same-length-12 : tie.Need-shape_of-values invariant_loop decreases_loop
+same-length-12 c = c.loop-tried.invariant.2
 
-returns_3 : tie.Need-returns-3 invariant_loop decreases_loop
+returns_3 : tie.Need-returns invariant_loop decreases_loop
 returns_3 c =
     let s = c.before.before.before.before.before.before.before.before.before.before.before.before.before.before.before.before.before.before.before.before.before in
     let p = s.requires in
-    let b = c.before.before.before.before.before.before.before.before.before.before.begin in
-    let l = c.before.loop in
+    let b = c.begin-begun in
+    let l = c.loop-tried in
     let e = b.ensures in
     let w = (l.invariant.0 s.args.plan.root s.args.start e).1 in
-    ends_spent _ _ _ _ _ _ _ _ e.setting _ _ _ _ _ (l.invariant.0 s.args.plan.root s.args.start e).0 w c.loop-test.false _
+    ends_spent _ _ _ _ _ _ _ _ e.setting _ _ _ _ _ (l.invariant.0 s.args.plan.root s.args.start e).0 w c.loop-tried-test.false _
 
 pub walk_in_spec : {M : Type 1} → statement M
 walk_in_spec =
@@ -300,7 +294,7 @@ walk_in_spec =
     loop_holds
     evaluate-requires
     sub-lanes-in
-    lanes-in-requires
+    (λ c κs. search rules)
     first-false-requires
     values-of-requires
     add-t42
@@ -322,7 +316,7 @@ walk_in_spec =
     add-number
     mul-number
     array-read-number
-    number-requires
+    (λ c κs. search rules)
     loop_less
     loop_again
     same-length-9

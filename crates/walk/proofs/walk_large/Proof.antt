@@ -6,16 +6,7 @@ use lib.ListN.{length-replicate}
 use Rattle.walk.proofs.walk_large.Statement.{statement}
 use Rattle.walk.proofs.walk_large.Tie as tie
 
-slice-aggregate-walk-in : tie.Need-slice-aggregate-walk-in
-slice-aggregate-walk-in c = search rules
-
-slice-aggregate-walk-in-2 : tie.Need-slice-aggregate-walk-in-2
-slice-aggregate-walk-in-2 c = search rules
-
-slice-aggregate-walk-in-3 : tie.Need-slice-aggregate-walk-in-3
-slice-aggregate-walk-in-3 c = search rules
-
-walk-in-requires : tie.Need-walk-in-requires
+walk-in-requires : tie.Need-walk_in-requires
 walk-in-requires c κs =
     let s = c.before.before.before.before.before.before in
     let p = s.requires in
@@ -26,19 +17,13 @@ walk-in-requires c κs =
     let room = p.0.parts_are.room in
     (p.0, omega arith, omega arith, omega arith, p.1)
 
-same_length : tie.Need-same-length
-same_length c = search rules
-
-returns : tie.Need-returns
-returns c = search rules
-
 pub walk_large_spec : {M : Type 1} → statement M
 walk_large_spec =
     tie.close
     (tie.spec
-    slice-aggregate-walk-in
-    slice-aggregate-walk-in-2
-    slice-aggregate-walk-in-3
+    (λ c. search rules)
+    (λ c. search rules)
+    (λ c. search rules)
     walk-in-requires
-    same_length
-    returns)
+    (λ c. search rules)
+    (λ c. search rules))

@@ -7,16 +7,7 @@ use Rattle.walk.proofs.Splitting.{cells_few}
 use Rattle.walk.proofs.walk_middle.Statement.{statement}
 use Rattle.walk.proofs.walk_middle.Tie as tie
 
-slice-aggregate-walk-in : tie.Need-slice-aggregate-walk-in
-slice-aggregate-walk-in c = search rules
-
-slice-aggregate-walk-in-2 : tie.Need-slice-aggregate-walk-in-2
-slice-aggregate-walk-in-2 c = search rules
-
-slice-aggregate-walk-in-3 : tie.Need-slice-aggregate-walk-in-3
-slice-aggregate-walk-in-3 c = search rules
-
-walk-in-requires : tie.Need-walk-in-requires
+walk-in-requires : tie.Need-walk_in-requires
 walk-in-requires c κs =
     let s = c.before.before.before.before.before.before in
     let p = s.requires in
@@ -27,19 +18,13 @@ walk-in-requires c κs =
     let room = cells_few s.args.plan.parts.chunks s.args.plan.shape.nodes p.0.parts_are.parted.chunks_few p.1 in
     (p.0, omega arith, omega arith, omega arith, p.2)
 
-same_length : tie.Need-same-length
-same_length c = search rules
-
-returns : tie.Need-returns
-returns c = search rules
-
 pub walk_middle_spec : {M : Type 1} → statement M
 walk_middle_spec =
     tie.close
     (tie.spec
-    slice-aggregate-walk-in
-    slice-aggregate-walk-in-2
-    slice-aggregate-walk-in-3
+    (λ c. search rules)
+    (λ c. search rules)
+    (λ c. search rules)
     walk-in-requires
-    same_length
-    returns)
+    (λ c. search rules)
+    (λ c. search rules))

@@ -13,206 +13,203 @@ use Rattle.walk.proofs.Decoding.{laid, length_laid, decoded_more, chunks_few, of
 use Rattle.walk.proofs.branches.decode.Statement.{statement}
 use Rattle.walk.proofs.branches.decode.Tie as tie
 
-abbrev invariant_loop : tie.invariant-loop
+abbrev invariant_loop : tie.invariant-loop-k
 invariant_loop table shape chunks positions branches₀ wide k₀ branches k =
     (k ≤ shape.nodes)
     × (length branches ≡ length branches₀)
     × Decoded (16 * chunks) (positions_in positions) table shape branches k
 
-abbrev decreases_loop : tie.decreases-loop
+abbrev decreases_loop : tie.decreases-loop-k
 decreases_loop table shape chunks positions branches₀ wide k₀ branches k = shape.nodes - k
 
-mul_wide : tie.Need-overflow-mul-wide invariant_loop decreases_loop
+mul_wide : tie.Need-overflow_mul-wide invariant_loop decreases_loop
 mul_wide c =
     let s = c.before.before.before in
     let few = chunks_few s.args.chunks s.args.shape.nodes s.requires.2 in
     omega arith
 
-loop_holds : tie.Need-loop-init invariant_loop decreases_loop
+loop_holds : tie.Need-loop-k-init invariant_loop decreases_loop
 loop_holds c = (omega arith, refl, record { stored = below_none _ })
 
-branch-at-requires : tie.Need-branch-at-requires invariant_loop decreases_loop
+branch-at-requires : tie.Need-branch_at-branch-requires invariant_loop decreases_loop
 branch-at-requires c κs =
     let s = c.before.before.before.before.before.before in
-    (s.requires.0, c.if1.true, s.requires.1.long)
+    (s.requires.0, c.loop-k-test.true, s.requires.1.long)
 
-mul-number : tie.Need-overflow-mul-number invariant_loop decreases_loop
+mul-number : tie.Need-offset_bounds-positions-k invariant_loop decreases_loop
 mul-number c = omega arith
 
-shared-slice-read-number : tie.Need-shared-slice-read-number invariant_loop decreases_loop
+shared-slice-read-number : tie.Need-bounds-positions-k invariant_loop decreases_loop
 shared-slice-read-number c =
     let s = c.before.before.before.before.before.before.before.before in
     let long = s.requires.1.long in
     omega arith
 
-number-requires : tie.Need-number-requires invariant_loop decreases_loop
-number-requires c κs = search rules
-
-mul_at : tie.Need-overflow-mul-at invariant_loop decreases_loop
+mul_at : tie.Need-overflow_mul-at invariant_loop decreases_loop
 mul_at c =
     let s = c.before.before.before.before.before.before.before.before.before in
-    let p = s.requires.1.inside c.before.before.before.before.before.loop.k c.before.before.before.if1.true in
+    let p = s.requires.1.inside c.loop-k.k c.loop-k-test.true in
     omega arith
 
-mul-branches : tie.Need-overflow-mul-branches invariant_loop decreases_loop
+mul-branches : tie.Need-overflow_mul-branches invariant_loop decreases_loop
 mul-branches c =
     let s = c.before.before.before.before.before.before.before.before.before.before in
-    let b = c.before.before.before.branch-at in
+    let b = c.branch_at-branch in
     let small =
     offsets s.args.chunks s.args.positions.now
-    s.requires.0 s.requires.1 s.requires.2 c.before.before.before.before.before.before.loop.k c.before.before.before.before.if1.true b.result b.ensures
+    s.requires.0 s.requires.1 s.requires.2 c.loop-k.k c.loop-k-test.true b.result b.ensures
     in
     omega arith
 
-cast-branches : tie.Need-overflow-cast-branches invariant_loop decreases_loop
+cast-branches : tie.Need-overflow_cast-branches invariant_loop decreases_loop
 cast-branches c =
     let s = c.before.before.before.before.before.before.before.before.before.before in
-    let b = c.before.before.before.branch-at in
+    let b = c.branch_at-branch in
     let small =
     offsets s.args.chunks s.args.positions.now
-    s.requires.0 s.requires.1 s.requires.2 c.before.before.before.before.before.before.loop.k c.before.before.before.before.if1.true b.result b.ensures
+    s.requires.0 s.requires.1 s.requires.2 c.loop-k.k c.loop-k-test.true b.result b.ensures
     in
     omega arith
 
-mul-branches-2 : tie.Need-overflow-mul-branches-2 invariant_loop decreases_loop
+mul-branches-2 : tie.Need-offset_bounds-branches-at invariant_loop decreases_loop
 mul-branches-2 c =
     let s = c.before.before.before.before.before.before.before.before.before.before in
-    let p = s.requires.1.inside c.before.before.before.before.before.before.loop.k c.before.before.before.before.if1.true in
+    let p = s.requires.1.inside c.loop-k.k c.loop-k-test.true in
     omega arith
 
-slice-write-branches : tie.Need-slice-write-branches invariant_loop decreases_loop
+slice-write-branches : tie.Need-bounds-branches-at invariant_loop decreases_loop
 slice-write-branches c =
     let s = c.before.before.before.before.before.before.before.before.before.before in
-    let p = s.requires.1.inside c.before.before.before.before.before.before.loop.k c.before.before.before.before.if1.true in
+    let p = s.requires.1.inside c.loop-k.k c.loop-k-test.true in
     omega arith
 
-mul-branches-3 : tie.Need-overflow-mul-branches-3 invariant_loop decreases_loop
+mul-branches-3 : tie.Need-overflow_mul-branches-in-loop-k invariant_loop decreases_loop
 mul-branches-3 c =
     let s = c.before.before.before.before.before.before.before.before.before.before.before in
-    let b = c.before.before.before.before.branch-at in
+    let b = c.branch_at-branch in
     let small =
     offsets s.args.chunks s.args.positions.now
-    s.requires.0 s.requires.1 s.requires.2 c.before.before.before.before.before.before.before.loop.k c.before.before.before.before.before.if1.true b.result b.ensures
+    s.requires.0 s.requires.1 s.requires.2 c.loop-k.k c.loop-k-test.true b.result b.ensures
     in
     omega arith
 
-cast-branches-2 : tie.Need-overflow-cast-branches-2 invariant_loop decreases_loop
+cast-branches-2 : tie.Need-overflow_cast-branches-in-loop-k invariant_loop decreases_loop
 cast-branches-2 c =
     let s = c.before.before.before.before.before.before.before.before.before.before.before in
-    let b = c.before.before.before.before.branch-at in
+    let b = c.branch_at-branch in
     let small =
     offsets s.args.chunks s.args.positions.now
-    s.requires.0 s.requires.1 s.requires.2 c.before.before.before.before.before.before.before.loop.k c.before.before.before.before.before.if1.true b.result b.ensures
+    s.requires.0 s.requires.1 s.requires.2 c.loop-k.k c.loop-k-test.true b.result b.ensures
     in
     omega arith
 
-add-branches : tie.Need-overflow-add-branches invariant_loop decreases_loop
+add-branches : tie.Need-overflow_add-branches invariant_loop decreases_loop
 add-branches c =
     let s = c.before.before.before.before.before.before.before.before.before.before.before in
-    let p = s.requires.1.inside c.before.before.before.before.before.before.before.loop.k c.before.before.before.before.before.if1.true in
+    let p = s.requires.1.inside c.loop-k.k c.loop-k-test.true in
     omega arith
 
-mul-branches-4 : tie.Need-overflow-mul-branches-4 invariant_loop decreases_loop
+mul-branches-4 : tie.Need-offset_bounds-branches-at-in-loop-k invariant_loop decreases_loop
 mul-branches-4 c =
     let s = c.before.before.before.before.before.before.before.before.before.before.before in
-    let p = s.requires.1.inside c.before.before.before.before.before.before.before.loop.k c.before.before.before.before.before.if1.true in
+    let p = s.requires.1.inside c.loop-k.k c.loop-k-test.true in
     omega arith
 
-slice-write-branches-2 : tie.Need-slice-write-branches-2 invariant_loop decreases_loop
+slice-write-branches-2 : tie.Need-bounds-branches-at-in-loop-k invariant_loop decreases_loop
 slice-write-branches-2 c =
     let s = c.before.before.before.before.before.before.before.before.before.before.before in
-    let p = s.requires.1.inside c.before.before.before.before.before.before.before.loop.k c.before.before.before.before.before.if1.true in
+    let p = s.requires.1.inside c.loop-k.k c.loop-k-test.true in
     simp length-set (omega arith)
 
-mul-branches-5 : tie.Need-overflow-mul-branches-5 invariant_loop decreases_loop
+mul-branches-5 : tie.Need-overflow_mul-branches-in-loop-k-2 invariant_loop decreases_loop
 mul-branches-5 c =
     let s = c.before.before.before.before.before.before.before.before.before.before.before.before in
-    let b = c.before.before.before.before.before.branch-at in
+    let b = c.branch_at-branch in
     let small =
     offsets s.args.chunks s.args.positions.now
-    s.requires.0 s.requires.1 s.requires.2 c.before.before.before.before.before.before.before.before.loop.k c.before.before.before.before.before.before.if1.true b.result b.ensures
+    s.requires.0 s.requires.1 s.requires.2 c.loop-k.k c.loop-k-test.true b.result b.ensures
     in
     omega arith
 
-cast-branches-3 : tie.Need-overflow-cast-branches-3 invariant_loop decreases_loop
+cast-branches-3 : tie.Need-overflow_cast-branches-in-loop-k-2 invariant_loop decreases_loop
 cast-branches-3 c =
     let s = c.before.before.before.before.before.before.before.before.before.before.before.before in
-    let b = c.before.before.before.before.before.branch-at in
+    let b = c.branch_at-branch in
     let small =
     offsets s.args.chunks s.args.positions.now
-    s.requires.0 s.requires.1 s.requires.2 c.before.before.before.before.before.before.before.before.loop.k c.before.before.before.before.before.before.if1.true b.result b.ensures
+    s.requires.0 s.requires.1 s.requires.2 c.loop-k.k c.loop-k-test.true b.result b.ensures
     in
     omega arith
 
-add-branches-2 : tie.Need-overflow-add-branches-2 invariant_loop decreases_loop
+add-branches-2 : tie.Need-overflow_add-branches-in-loop-k invariant_loop decreases_loop
 add-branches-2 c =
     let s = c.before.before.before.before.before.before.before.before.before.before.before.before in
-    let p = s.requires.1.inside c.before.before.before.before.before.before.before.before.loop.k c.before.before.before.before.before.before.if1.true in
+    let p = s.requires.1.inside c.loop-k.k c.loop-k-test.true in
     omega arith
 
-mul-branches-6 : tie.Need-overflow-mul-branches-6 invariant_loop decreases_loop
+mul-branches-6 : tie.Need-offset_bounds-branches-at-in-loop-k-2 invariant_loop decreases_loop
 mul-branches-6 c =
     let s = c.before.before.before.before.before.before.before.before.before.before.before.before in
-    let p = s.requires.1.inside c.before.before.before.before.before.before.before.before.loop.k c.before.before.before.before.before.before.if1.true in
+    let p = s.requires.1.inside c.loop-k.k c.loop-k-test.true in
     omega arith
 
-slice-write-branches-3 : tie.Need-slice-write-branches-3 invariant_loop decreases_loop
+slice-write-branches-3 : tie.Need-bounds-branches-at-in-loop-k-2 invariant_loop decreases_loop
 slice-write-branches-3 c =
     let s = c.before.before.before.before.before.before.before.before.before.before.before.before in
-    let p = s.requires.1.inside c.before.before.before.before.before.before.before.before.loop.k c.before.before.before.before.before.before.if1.true in
+    let p = s.requires.1.inside c.loop-k.k c.loop-k-test.true in
     simp length-set (omega arith)
 
-mul-branches-7 : tie.Need-overflow-mul-branches-7 invariant_loop decreases_loop
+mul-branches-7 : tie.Need-overflow_mul-branches-in-loop-k-3 invariant_loop decreases_loop
 mul-branches-7 c =
     let s = c.before.before.before.before.before.before.before.before.before.before.before.before.before in
-    let b = c.before.before.before.before.before.before.branch-at in
+    let b = c.branch_at-branch in
     let small =
     offsets s.args.chunks s.args.positions.now
-    s.requires.0 s.requires.1 s.requires.2 c.before.before.before.before.before.before.before.before.before.loop.k c.before.before.before.before.before.before.before.if1.true b.result b.ensures
+    s.requires.0 s.requires.1 s.requires.2 c.loop-k.k c.loop-k-test.true b.result b.ensures
     in
     omega arith
 
-cast-branches-4 : tie.Need-overflow-cast-branches-4 invariant_loop decreases_loop
+cast-branches-4 : tie.Need-overflow_cast-branches-in-loop-k-3 invariant_loop decreases_loop
 cast-branches-4 c =
     let s = c.before.before.before.before.before.before.before.before.before.before.before.before.before in
-    let b = c.before.before.before.before.before.before.branch-at in
+    let b = c.branch_at-branch in
     let small =
     offsets s.args.chunks s.args.positions.now
-    s.requires.0 s.requires.1 s.requires.2 c.before.before.before.before.before.before.before.before.before.loop.k c.before.before.before.before.before.before.before.if1.true b.result b.ensures
+    s.requires.0 s.requires.1 s.requires.2 c.loop-k.k c.loop-k-test.true b.result b.ensures
     in
     omega arith
 
-add-branches-3 : tie.Need-overflow-add-branches-3 invariant_loop decreases_loop
+add-branches-3 : tie.Need-overflow_add-branches-in-loop-k-2 invariant_loop decreases_loop
 add-branches-3 c =
     let s = c.before.before.before.before.before.before.before.before.before.before.before.before.before in
-    let p = s.requires.1.inside c.before.before.before.before.before.before.before.before.before.loop.k c.before.before.before.before.before.before.before.if1.true in
+    let p = s.requires.1.inside c.loop-k.k c.loop-k-test.true in
     omega arith
 
-mul-branches-8 : tie.Need-overflow-mul-branches-8 invariant_loop decreases_loop
+mul-branches-8 : tie.Need-offset_bounds-branches-at-in-loop-k-3 invariant_loop decreases_loop
 mul-branches-8 c =
     let s = c.before.before.before.before.before.before.before.before.before.before.before.before.before in
-    let p = s.requires.1.inside c.before.before.before.before.before.before.before.before.before.loop.k c.before.before.before.before.before.before.before.if1.true in
+    let p = s.requires.1.inside c.loop-k.k c.loop-k-test.true in
     omega arith
 
-slice-write-branches-4 : tie.Need-slice-write-branches-4 invariant_loop decreases_loop
+slice-write-branches-4 : tie.Need-bounds-branches-at-in-loop-k-3 invariant_loop decreases_loop
 slice-write-branches-4 c =
     let s = c.before.before.before.before.before.before.before.before.before.before.before.before.before in
-    let p = s.requires.1.inside c.before.before.before.before.before.before.before.before.before.loop.k c.before.before.before.before.before.before.before.if1.true in
+    let p = s.requires.1.inside c.loop-k.k c.loop-k-test.true in
     simp length-set (omega arith)
 
-add-k : tie.Need-overflow-add-k invariant_loop decreases_loop
+add-k : tie.Need-overflow_add-k invariant_loop decreases_loop
 add-k c = omega arith
 
-loop_less : tie.Need-loop-smaller invariant_loop decreases_loop
+loop_less : tie.Need-loop-k-smaller invariant_loop decreases_loop
 loop_less c = omega arith
 
-loop_again : tie.Need-loop-preserved invariant_loop decreases_loop
+loop_again : tie.Need-loop-k-preserved invariant_loop decreases_loop
 loop_again c =
     let s = c.before.before.before.before.before.before.before.before.before.before.before.before.before in
-    let l = c.before.before.before.before.before.before.before.before.before.loop in
-    let b = c.before.before.before.before.before.before.branch-at in
-    let here = c.before.before.before.before.number in
-    let below = c.before.before.before.before.before.before.before.if1.true in
+    let l = c.loop-k in
+    let b = c.branch_at-branch in
+    let here = c.number-at in
+    let below = c.loop-k-test.true in
     let v = l.invariant in (
       omega arith,
       length_laid (16 * s.args.chunks) l.branches here.result b.result ∙ v.1,
@@ -227,13 +224,13 @@ loop_again c =
           below (omega arith) v.2),
     )
 
-same_length : tie.Need-same-length invariant_loop decreases_loop
-same_length c = c.before.before.loop.invariant.1
+same_length : tie.Need-shape_of-branches invariant_loop decreases_loop
+same_length c = c.loop-k.invariant.1
 
 returns : tie.Need-returns invariant_loop decreases_loop
 returns c =
     let s = c.before.before.before.before.before.before in
-    let l = c.before.before.loop in
+    let l = c.loop-k in
     subst
     (Decoded (16 * s.args.chunks) (positions_in s.args.positions.now) s.args.table.now s.args.shape l.branches)
     (let e : l.k ≡ s.args.shape.nodes = omega arith in e) l.invariant.2
@@ -249,7 +246,7 @@ decode_spec =
     branch-at-requires
     mul-number
     shared-slice-read-number
-    number-requires
+    (λ c κs. search rules)
     mul_at
     mul-branches
     cast-branches

@@ -9,46 +9,40 @@ use Rattle.walk.proofs.Filling.{filled_none, filled_more}
 use Rattle.walk.proofs.cells.fill.Statement.{statement}
 use Rattle.walk.proofs.cells.fill.Tie as tie
 
-abbrev invariant_loop : tie.invariant-loop
+abbrev invariant_loop : tie.invariant-loop-h
 invariant_loop cells₀ at chunks value h₀ cells h = (h ≤ chunks) × (length cells ≡ length cells₀) × Filled (16 * h) at value cells₀ cells
 
-abbrev decreases_loop : tie.decreases-loop
+abbrev decreases_loop : tie.decreases-loop-h
 decreases_loop cells₀ at chunks value h₀ cells h = chunks - h
 
-loop_holds : tie.Need-loop-init invariant_loop decreases_loop
+loop_holds : tie.Need-loop-h-init invariant_loop decreases_loop
 loop_holds c = (omega arith, search rules, filled_none _ _ _)
 
-mul-put-lanes : tie.Need-overflow-mul-put-lanes invariant_loop decreases_loop
+mul-put-lanes : tie.Need-overflow_mul-h invariant_loop decreases_loop
 mul-put-lanes c = omega arith
 
-add-put-lanes : tie.Need-overflow-add-put-lanes invariant_loop decreases_loop
+add-put-lanes : tie.Need-overflow_add-at invariant_loop decreases_loop
 add-put-lanes c = omega arith
 
-put-lanes-requires : tie.Need-put-lanes-requires invariant_loop decreases_loop
-put-lanes-requires c κs = search rules
-
-add-h : tie.Need-overflow-add-h invariant_loop decreases_loop
+add-h : tie.Need-overflow_add-h invariant_loop decreases_loop
 add-h c = omega arith
 
-loop_less : tie.Need-loop-smaller invariant_loop decreases_loop
+loop_less : tie.Need-loop-h-smaller invariant_loop decreases_loop
 loop_less c = omega arith
 
-loop_again : tie.Need-loop-preserved invariant_loop decreases_loop
+loop_again : tie.Need-loop-h-preserved invariant_loop decreases_loop
 loop_again c =
-    let s = c.before.before.before.before.before.before.before.args in
-    let l = c.before.before.before.before.before.loop in (
+    let s = c.args in
+    let l = c.loop-h in (
       omega arith,
       search rules,
-      filled_more s.at s.value l.h s.cells.now l.cells _ l.invariant.2 c.before.before.put-lanes.ensures,
+      filled_more s.at s.value l.h s.cells.now l.cells _ l.invariant.2 c.put_lanes.ensures,
     )
-
-same_length : tie.Need-same-length invariant_loop decreases_loop
-same_length c = search rules
 
 returns : tie.Need-returns invariant_loop decreases_loop
 returns c =
-    let s = c.before.before.before.args in
-    let l = c.before.loop in
+    let s = c.args in
+    let l = c.loop-h in
     let e : l.h ≡ s.chunks = omega arith in
     subst (λ (h : ℕ). Filled (16 * h) s.at s.value s.cells.now l.cells) e l.invariant.2
 
@@ -61,9 +55,9 @@ fill_spec =
     loop_holds
     mul-put-lanes
     add-put-lanes
-    put-lanes-requires
+    (λ c κs. search rules)
     add-h
     loop_less
     loop_again
-    same_length
+    (λ c. search rules)
     returns)

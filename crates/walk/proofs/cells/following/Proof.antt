@@ -7,19 +7,24 @@ use Rattle.walk.proofs.Runs.{strict}
 use Rattle.walk.proofs.cells.following.Statement.{statement}
 use Rattle.walk.proofs.cells.following.Tie as tie
 
-add-next : tie.Need-overflow-add-next
+add-next : tie.Need-overflow_add-next
 add-next c = let p = c.requires in omega arith
 
-returns : tie.Need-returns
-returns c = let s = c.before.args in sym (ap (λ x. x % s.size) c.if1.true ∙ mod_self s.size)
+returns : tie.Need-returns-then-next-size
+returns c = let s = c.args in sym (ap (λ x. x % s.size) c.if-next-size.true ∙ mod_self s.size)
 
-returns_2 : tie.Need-returns-2
+returns_2 : tie.Need-returns
 returns_2 c =
-    let s = c.before.args in
-    let p = c.before.requires in
-    let n = c.if1.false in
+    let s = c.args in
+    let p = c.requires in
+    let n = c.if-next-size.false in
     let h : s.digit + 1 < s.size = strict s.digit s.size p n in
     sym (mod-eq_of_lt h)
 
 pub following_spec : {M : Type 1} → statement M
-following_spec = tie.close (tie.spec add-next returns returns_2)
+following_spec =
+    tie.close
+    (tie.spec
+    add-next
+    returns
+    returns_2)

@@ -14,28 +14,28 @@ use Rattle.walk.proofs.Fast.{fast_none, fast_are, digit_fits, digit_room, digit_
 use Rattle.walk.proofs.cells.lay_fast.Statement.{statement}
 use Rattle.walk.proofs.cells.lay_fast.Tie as tie
 
-abbrev invariant_loop : tie.invariant-loop
+abbrev invariant_loop : tie.invariant-loop-v
 invariant_loop variables parts cells₀ sizes lanes run₀ v₀ cells run v =
     (v ≤ parts.fast) × (length cells ≡ length cells₀) × (run ≡ product_of (take v (take parts.fast sizes)))
     × FastLaid (16 * parts.chunks) variables (take parts.fast sizes) v cells₀ cells
 
-abbrev decreases_loop : tie.decreases-loop
+abbrev decreases_loop : tie.decreases-loop-v
 decreases_loop variables parts cells₀ sizes lanes run₀ v₀ cells run v = parts.fast - v
 
-loop_holds : tie.Need-loop-init invariant_loop decreases_loop
+loop_holds : tie.Need-loop-v-init invariant_loop decreases_loop
 loop_holds c = (omega arith, search rules, refl, fast_none _ _ _ _)
 
-mul_at : tie.Need-overflow-mul-at invariant_loop decreases_loop
+mul_at : tie.Need-overflow_mul-at invariant_loop decreases_loop
 mul_at c = omega arith
 
-add_at : tie.Need-overflow-add-at invariant_loop decreases_loop
+add_at : tie.Need-overflow_add-at invariant_loop decreases_loop
 add_at c = omega arith
 
-mul-at-2 : tie.Need-overflow-mul-at-2 invariant_loop decreases_loop
+mul-at-2 : tie.Need-overflow_mul-at-in-loop-v invariant_loop decreases_loop
 mul-at-2 c =
-    let s = c.before.before.before.before.before.before.args in
-    let p = c.before.before.before.before.before.before.requires in
-    let v = c.before.before.before.loop.v in
+    let s = c.args in
+    let p = c.requires in
+    let v = c.loop-v.v in
     let S = 16 * s.parts.chunks in
     let a = p.0.few in
     let b = p.1.fast_few in
@@ -43,66 +43,57 @@ mul-at-2 c =
     let m : S * (2 + v) ≤ S * 42 = mul-le-mul_left S (omega arith) in
     omega arith
 
-array-read-lay-digit : tie.Need-array-read-lay-digit invariant_loop decreases_loop
-array-read-lay-digit c = omega (arith, c.before.before.before.before.before.before.before.requires.0.few, c.before.before.before.before.before.before.before.requires.1.fast_few)
+array-read-lay-digit : tie.Need-bounds-sizes-v invariant_loop decreases_loop
+array-read-lay-digit c = omega (arith, c.requires.0.few, c.requires.1.fast_few)
 
-least-requires : tie.Need-least-requires invariant_loop decreases_loop
-least-requires c κs = search rules
-
-lay-digit-requires : tie.Need-lay-digit-requires invariant_loop decreases_loop
+lay-digit-requires : tie.Need-lay_digit-requires invariant_loop decreases_loop
 lay-digit-requires c κs =
-    let s = c.before.before.before.before.before.before.before.before.args in
-    let p = c.before.before.before.before.before.before.before.before.requires in
-    let l = c.before.before.before.before.before.loop in
-    let f = digit_fits s.start s.parts p.0 p.1 l.v c.before.before.before.if1.true l.run l.invariant.2 in
-    let g = digit_room s.start s.parts p.0 p.1 l.v c.before.before.before.if1.true l.run l.invariant.2 in
+    let s = c.args in
+    let p = c.requires in
+    let l = c.loop-v in
+    let f = digit_fits s.start s.parts p.0 p.1 l.v c.loop-v-test.true l.run l.invariant.2 in
+    let g = digit_room s.start s.parts p.0 p.1 l.v c.loop-v-test.true l.run l.invariant.2 in
     let e = least_small s.variables l.v in
     let k = c.least.ensures in
     (f.0, f.1, f.2, f.3, f.4, omega arith, omega arith)
 
-array-read-wide : tie.Need-array-read-wide invariant_loop decreases_loop
-array-read-wide c = omega (arith, c.before.before.before.before.before.before.before.before.before.before.before.requires.0.few, c.before.before.before.before.before.before.before.before.before.before.before.requires.1.fast_few)
+array-read-wide : tie.Need-bounds-sizes-v-in-loop-v invariant_loop decreases_loop
+array-read-wide c = omega (arith, c.requires.0.few, c.requires.1.fast_few)
 
-wide-requires : tie.Need-wide-requires invariant_loop decreases_loop
-wide-requires c κs = search rules
-
-mul-run : tie.Need-overflow-mul-run invariant_loop decreases_loop
+mul-run : tie.Need-overflow_mul-run invariant_loop decreases_loop
 mul-run c =
-    let s = c.before.before.before.before.before.before.before.before.before.before.before.before.args in
-    let p = c.before.before.before.before.before.before.before.before.before.before.before.before.requires in
-    let l = c.before.before.before.before.before.before.before.before.before.loop in
-    let f = digit_fits s.start s.parts p.0 p.1 l.v c.before.before.before.before.before.before.before.if1.true l.run l.invariant.2 in
-    let w = c.wide.result in
+    let s = c.args in
+    let p = c.requires in
+    let l = c.loop-v in
+    let f = digit_fits s.start s.parts p.0 p.1 l.v c.loop-v-test.true l.run l.invariant.2 in
+    let w = c.wide-run.result in
     let m : l.run * w ≤ 128 * w = mul-le-mul_right w f.1 in
-    omega (arith, c.wide.ensures)
+    omega (arith, c.wide-run.ensures)
 
-add-v : tie.Need-overflow-add-v invariant_loop decreases_loop
+add-v : tie.Need-overflow_add-v invariant_loop decreases_loop
 add-v c = omega arith
 
-loop_less : tie.Need-loop-smaller invariant_loop decreases_loop
+loop_less : tie.Need-loop-v-smaller invariant_loop decreases_loop
 loop_less c = omega arith
 
-loop_again : tie.Need-loop-preserved invariant_loop decreases_loop
+loop_again : tie.Need-loop-v-preserved invariant_loop decreases_loop
 loop_again c =
-    let s = c.before.before.before.before.before.before.before.before.before.before.before.before.args in
-    let p = c.before.before.before.before.before.before.before.before.before.before.before.before.requires in
-    let l = c.before.before.before.before.before.before.before.before.before.loop in
-    let h = c.before.before.before.before.before.before.before.if1.true in (
+    let s = c.args in
+    let p = c.requires in
+    let l = c.loop-v in
+    let h = c.loop-v-test.true in (
       omega arith,
       search rules,
-      run_after s.start s.parts p.0 p.1 l.v h l.run l.invariant.2 _ c.wide.ensures.0,
+      run_after s.start s.parts p.0 p.1 l.v h l.run l.invariant.2 _ c.wide-run.ensures.0,
       digit_more s.start s.parts p.0 p.1 l.v h l.run l.invariant.2 s.variables s.cells.now l.cells _ l.invariant.3 _
-          c.before.before.before.before.least.ensures c.before.before.before.lay-digit.ensures,
+          c.least.ensures c.lay_digit.ensures,
     )
-
-same_length : tie.Need-same-length invariant_loop decreases_loop
-same_length c = search rules
 
 returns : tie.Need-returns invariant_loop decreases_loop
 returns c =
-    let s = c.before.before.before.before.before.args in
-    let p = c.before.before.before.before.before.requires in
-    let l = c.before.before.loop in
+    let s = c.args in
+    let p = c.requires in
+    let l = c.loop-v in
     let e : l.v ≡ s.parts.fast = omega arith in
     subst (λ (fast : List ℕ). FastLaid (16 * s.parts.chunks) s.variables fast s.parts.fast s.cells.now l.cells)
     (fast_are s.start s.parts p.0 p.1)
@@ -121,13 +112,13 @@ lay_fast_spec =
     add_at
     mul-at-2
     array-read-lay-digit
-    least-requires
+    (λ c κs. search rules)
     lay-digit-requires
     array-read-wide
-    wide-requires
+    (λ c κs. search rules)
     mul-run
     add-v
     loop_less
     loop_again
-    same_length
+    (λ c. search rules)
     returns)

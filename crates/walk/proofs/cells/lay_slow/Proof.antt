@@ -11,82 +11,76 @@ use Rattle.walk.proofs.Slow.{slow_more}
 use Rattle.walk.proofs.cells.lay_slow.Statement.{statement}
 use Rattle.walk.proofs.cells.lay_slow.Tie as tie
 
-abbrev invariant_loop : tie.invariant-loop
+abbrev invariant_loop : tie.invariant-loop-j
 invariant_loop variables parts digits to cells₀ j₀ cells j =
     SlowLaid (16 * parts.chunks) variables parts.fast digits j cells₀ cells × (j ≤ to) × (length cells ≡ length cells₀)
 
-abbrev decreases_loop : tie.decreases-loop
+abbrev decreases_loop : tie.decreases-loop-j
 decreases_loop variables parts digits to cells₀ j₀ cells j = to - j
 
-loop_holds : tie.Need-loop-init invariant_loop decreases_loop
+loop_holds : tie.Need-loop-j-init invariant_loop decreases_loop
 loop_holds c = (record { laid = λ j h. absurd (omega arith); outside = λ i h. refl }, omega arith, search rules)
 
-add-v : tie.Need-overflow-add-v invariant_loop decreases_loop
+add-v : tie.Need-overflow_add-v invariant_loop decreases_loop
 add-v c = omega arith
 
-mul_at : tie.Need-overflow-mul-at invariant_loop decreases_loop
+mul_at : tie.Need-overflow_mul-at invariant_loop decreases_loop
 mul_at c = omega arith
 
-add_at : tie.Need-overflow-add-at invariant_loop decreases_loop
+add_at : tie.Need-overflow_add-at invariant_loop decreases_loop
 add_at c = omega arith
 
-mul-at-2 : tie.Need-overflow-mul-at-2 invariant_loop decreases_loop
+mul-at-2 : tie.Need-overflow_mul-at-in-loop-j invariant_loop decreases_loop
 mul-at-2 c =
-    let s = c.before.before.before.before.before.before.args in
-    let j = c.before.before.before.loop.j in
+    let s = c.args in
+    let j = c.loop-j.j in
     let S = 16 * s.parts.chunks in
     let m : S * (2 + (s.parts.fast + j)) ≤ S * 42 = mul-le-mul_left S (omega arith) in
     omega arith
 
-shared-slice-read-fill : tie.Need-shared-slice-read-fill invariant_loop decreases_loop
+shared-slice-read-fill : tie.Need-bounds-digits-j invariant_loop decreases_loop
 shared-slice-read-fill c = omega arith
 
-least-requires : tie.Need-least-requires invariant_loop decreases_loop
-least-requires c κs = search rules
-
-add-fill : tie.Need-overflow-add-fill invariant_loop decreases_loop
+add-fill : tie.Need-overflow_add-digits invariant_loop decreases_loop
 add-fill c =
-    let s = c.before.before.before.before.before.before.before.before.before.args in
-    let j = c.before.before.before.before.before.before.loop.j in
+    let s = c.args in
+    let j = c.loop-j.j in
     omega (
       arith,
       c.least.ensures,
       least_small s.variables (s.parts.fast + j),
-      c.before.before.before.before.before.before.before.before.before.requires.4 j,
+      c.requires.4 j,
     )
 
 fill-requires : tie.Need-fill-requires invariant_loop decreases_loop
 fill-requires c κs =
-    let s = c.before.before.before.before.before.before.before.before.before.args in
-    let j = c.before.before.before.before.before.before.loop.j in
+    let s = c.args in
+    let j = c.loop-j.j in
     let S = 16 * s.parts.chunks in
     let m : S * (3 + (s.parts.fast + j)) ≤ S * 42 = mul-le-mul_left S (omega arith) in
     let e : S * (3 + (s.parts.fast + j)) ≡ S * (2 + (s.parts.fast + j)) + S = omega arith in
     (omega arith, omega arith)
 
-add-j : tie.Need-overflow-add-j invariant_loop decreases_loop
+add-j : tie.Need-overflow_add-j invariant_loop decreases_loop
 add-j c = omega arith
 
-loop_less : tie.Need-loop-smaller invariant_loop decreases_loop
+loop_less : tie.Need-loop-j-smaller invariant_loop decreases_loop
 loop_less c = omega arith
 
-loop_again : tie.Need-loop-preserved invariant_loop decreases_loop
+loop_again : tie.Need-loop-j-preserved invariant_loop decreases_loop
 loop_again c =
-    let s = c.before.before.before.before.before.before.before.before.before.before.before.before.args in
-    let l = c.before.before.before.before.before.before.before.before.before.loop in (
+    let s = c.args in
+    let l = c.loop-j in (
       slow_more (16 * s.parts.chunks) s.variables s.parts.fast s.digits.now l.j s.cells.now l.cells _ l.invariant.0 _
-          c.before.before.before.least.ensures c.before.before.fill.ensures,
+          c.least.ensures c.fill.ensures,
       omega arith,
       search rules,
     )
 
-same_length : tie.Need-same-length invariant_loop decreases_loop
-same_length c = search rules
-
 returns : tie.Need-returns invariant_loop decreases_loop
 returns c =
-    let s = c.before.before.before.before.args in
-    let l = c.before.loop in
+    let s = c.args in
+    let l = c.loop-j in
     let e : l.j ≡ s.to = omega arith in
     subst (λ (j : ℕ). SlowLaid (16 * s.parts.chunks) s.variables s.parts.fast s.digits.now j s.cells.now l.cells) e
     l.invariant.0
@@ -103,11 +97,11 @@ lay_slow_spec =
     add_at
     mul-at-2
     shared-slice-read-fill
-    least-requires
+    (λ c κs. search rules)
     add-fill
     fill-requires
     add-j
     loop_less
     loop_again
-    same_length
+    (λ c. search rules)
     returns)

@@ -7,22 +7,13 @@ use Rattle.walk.proofs.Solving.{place_small}
 use Rattle.walk.proofs.lanes.cell_of.Statement.{statement}
 use Rattle.walk.proofs.lanes.cell_of.Tie as tie
 
-mul-result : tie.Need-overflow-mul-result
-mul-result c = let p = c.before.requires in omega arith
+mul-result : tie.Need-overflow_mul-result
+mul-result c = let p = c.requires in omega arith
 
-mul-number : tie.Need-overflow-mul-number
-mul-number c = search rules
+add-result : tie.Need-overflow_add-result
+add-result c = let p = c.requires in let e = c.number.ensures in omega arith
 
-shared-slice-read-number : tie.Need-shared-slice-read-number
-shared-slice-read-number c = search rules
-
-number-requires : tie.Need-number-requires
-number-requires c κs = search rules
-
-add-result : tie.Need-overflow-add-result
-add-result c = let p = c.before.before.before.requires in let e = c.number.ensures in omega arith
-
-mul-result-2 : tie.Need-overflow-mul-result-2
+mul-result-2 : tie.Need-overflow_mul-result-2
 mul-result-2 c =
     let s = c.before.before.before in
     let p = s.requires in
@@ -34,4 +25,13 @@ returns : tie.Need-returns
 returns c = let s = c.before.before.before in ap (λ p. 16 * s.args.chunks * (42 + p)) c.number.ensures
 
 pub cell_of_spec : {M : Type 1} → statement M
-cell_of_spec = tie.close (tie.spec mul-result mul-number shared-slice-read-number number-requires add-result mul-result-2 returns)
+cell_of_spec =
+    tie.close
+    (tie.spec
+    mul-result
+    (λ c. search rules)
+    (λ c. search rules)
+    (λ c κs. search rules)
+    add-result
+    mul-result-2
+    returns)

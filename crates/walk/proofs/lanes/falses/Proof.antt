@@ -10,47 +10,57 @@ use Rattle.walk.proofs.Counted.{falses_more}
 use Rattle.walk.proofs.lanes.falses.Statement.{statement}
 use Rattle.walk.proofs.lanes.falses.Tie as tie
 
-abbrev invariant_loop : tie.invariant-loop
+abbrev invariant_loop : tie.invariant-loop-lane
 invariant_loop cells at many count₀ lane₀ count lane = FalsesAre cells at lane count × (lane ≤ many)
 
-abbrev decreases_loop : tie.decreases-loop
+abbrev decreases_loop : tie.decreases-loop-lane
 decreases_loop cells at many count₀ lane₀ count lane = many - lane
 
-loop_holds : tie.Need-loop-init invariant_loop decreases_loop
+loop_holds : tie.Need-loop-lane-init invariant_loop decreases_loop
 loop_holds c = (record { few = omega arith; none = λ e l h. absurd (omega arith) }, omega arith)
 
-add-equal : tie.Need-overflow-add-equal invariant_loop decreases_loop
+add-equal : tie.Need-overflow_add-at invariant_loop decreases_loop
 add-equal c = omega arith
 
-shared-slice-read-equal : tie.Need-shared-slice-read-equal invariant_loop decreases_loop
+shared-slice-read-equal : tie.Need-bounds-cells-at invariant_loop decreases_loop
 shared-slice-read-equal c = omega arith
 
-equal-requires : tie.Need-equal-requires invariant_loop decreases_loop
-equal-requires c κs = search rules
-
-add-count : tie.Need-overflow-add-count invariant_loop decreases_loop
+add-count : tie.Need-overflow_add-count invariant_loop decreases_loop
 add-count c =
-    let few = c.before.before.before.loop.invariant.0.few in
-    let l = c.before.before.before.loop.lane in
+    let few = c.loop-lane.invariant.0.few in
+    let l = c.loop-lane.lane in
     let s = c.before.before.before.before.before in
-    let one = bit_small c.equal.result (is_bit (get_or s.args.cells.now (s.args.at + l) 0) 0 c.equal.result c.equal.ensures) in
-    let p = c.before.before.before.before.before.requires in
+    let one = bit_small c.equal-count.result (is_bit (get_or s.args.cells.now (s.args.at + l) 0) 0 c.equal-count.result c.equal-count.ensures) in
+    let p = c.requires in
     omega arith
 
-add-lane : tie.Need-overflow-add-lane invariant_loop decreases_loop
+add-lane : tie.Need-overflow_add-lane invariant_loop decreases_loop
 add-lane c = omega arith
 
-loop_less : tie.Need-loop-smaller invariant_loop decreases_loop
+loop_less : tie.Need-loop-lane-smaller invariant_loop decreases_loop
 loop_less c = omega arith
 
-loop_again : tie.Need-loop-preserved invariant_loop decreases_loop
-loop_again c = (falses_more _ _ _ _ _ c.before.before.before.loop.invariant.0 c.equal.ensures, omega arith)
+loop_again : tie.Need-loop-lane-preserved invariant_loop decreases_loop
+loop_again c = (falses_more _ _ _ _ _ c.loop-lane.invariant.0 c.equal-count.ensures, omega arith)
 
 returns : tie.Need-returns invariant_loop decreases_loop
 returns c =
     let s = c.before.before.before in
-    let l = c.before.loop in
+    let l = c.loop-lane in
     subst (λ m. FalsesAre s.args.cells.now s.args.at m l.count) (let e : l.lane ≡ s.args.many = (let a = l.invariant.1 in omega arith) in e) l.invariant.0
 
 pub falses_spec : {M : Type 1} → statement M
-falses_spec = tie.close (tie.spec invariant_loop decreases_loop loop_holds add-equal shared-slice-read-equal equal-requires add-count add-lane loop_less loop_again returns)
+falses_spec =
+    tie.close
+    (tie.spec
+    invariant_loop
+    decreases_loop
+    loop_holds
+    add-equal
+    shared-slice-read-equal
+    (λ c κs. search rules)
+    add-count
+    add-lane
+    loop_less
+    loop_again
+    returns)

@@ -8,43 +8,52 @@ use borrow.Author.Count.{below_more}
 use Rattle.walk.proofs.lanes.first_false.Statement.{statement}
 use Rattle.walk.proofs.lanes.first_false.Tie as tie
 
-abbrev invariant_loop : tie.invariant-loop
+abbrev invariant_loop : tie.invariant-loop-l
 invariant_loop cells at many l₀ l = (k : ℕ) → k < l → get_or cells (at + k) 0 ≡ 0 → ⊥
 
-abbrev decreases_loop : tie.decreases-loop
+abbrev decreases_loop : tie.decreases-loop-l
 decreases_loop cells at many l₀ l = many - l
 
-falses-requires : tie.Need-falses-requires invariant_loop decreases_loop
-falses-requires c κs = search rules
+returns : tie.Need-returns-then-falses-eq0 invariant_loop decreases_loop
+returns c = record { inside = omega arith; before = c.falses.ensures.none c.if-falses-eq0.true; there = λ h. absurd (omega arith) }
 
-returns : tie.Need-returns invariant_loop decreases_loop
-returns c = record { inside = omega arith; before = c.before.falses.ensures.none c.if1.true; there = λ h. absurd (omega arith) }
-
-loop_holds : tie.Need-loop-init invariant_loop decreases_loop
+loop_holds : tie.Need-loop-l-init invariant_loop decreases_loop
 loop_holds c = λ k h. absurd (omega arith)
 
-add-if2 : tie.Need-overflow-add-if2 invariant_loop decreases_loop
-add-if2 c = let p = c.before.before.before.before.before.requires in omega arith
+add-if2 : tie.Need-overflow_add-at invariant_loop decreases_loop
+add-if2 c = let p = c.requires in omega arith
 
-shared-slice-read-if2 : tie.Need-shared-slice-read-if2 invariant_loop decreases_loop
-shared-slice-read-if2 c = let p = c.before.before.before.before.before.before.requires in omega arith
+shared-slice-read-if2 : tie.Need-bounds-cells-at invariant_loop decreases_loop
+shared-slice-read-if2 c = let p = c.requires in omega arith
 
-returns_2 : tie.Need-returns-2 invariant_loop decreases_loop
-returns_2 c = record { inside = omega arith; before = c.before.before.before.loop.invariant; there = λ h. c.if2.true }
+returns_2 : tie.Need-returns-then-cells-at-eq0 invariant_loop decreases_loop
+returns_2 c = record { inside = omega arith; before = c.loop-l.invariant; there = λ h. c.if-cells-at-eq0.true }
 
-add-l : tie.Need-overflow-add-l invariant_loop decreases_loop
+add-l : tie.Need-overflow_add-l invariant_loop decreases_loop
 add-l c = omega arith
 
-loop_less : tie.Need-loop-smaller invariant_loop decreases_loop
+loop_less : tie.Need-loop-l-smaller invariant_loop decreases_loop
 loop_less c = omega arith
 
-loop_again : tie.Need-loop-preserved invariant_loop decreases_loop
-loop_again c = below_more _ _ c.before.before.before.loop.invariant c.if2.false
+loop_again : tie.Need-loop-l-preserved invariant_loop decreases_loop
+loop_again c = below_more _ _ c.loop-l.invariant c.if-cells-at-eq0.false
 
-returns_3 : tie.Need-returns-3 invariant_loop decreases_loop
-returns_3 c = record { inside = omega arith; before = λ l h. c.before.loop.invariant l (omega arith); there = λ h. absurd (omega arith) }
+returns_3 : tie.Need-returns invariant_loop decreases_loop
+returns_3 c = record { inside = omega arith; before = λ l h. c.loop-l.invariant l (omega arith); there = λ h. absurd (omega arith) }
 
 pub first_false_spec : {M : Type 1} → statement M
 first_false_spec =
     tie.close
-    (tie.spec invariant_loop decreases_loop falses-requires returns loop_holds add-if2 shared-slice-read-if2 returns_2 add-l loop_less loop_again returns_3)
+    (tie.spec
+    invariant_loop
+    decreases_loop
+    (λ c κs. search rules)
+    returns
+    loop_holds
+    add-if2
+    shared-slice-read-if2
+    returns_2
+    add-l
+    loop_less
+    loop_again
+    returns_3)

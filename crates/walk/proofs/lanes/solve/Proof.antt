@@ -8,35 +8,35 @@ use Rattle.walk.proofs.Solving.{chunk_more}
 use Rattle.walk.proofs.lanes.solve.Statement.{statement}
 use Rattle.walk.proofs.lanes.solve.Tie as tie
 
-abbrev invariant_loop : tie.invariant-loop
+abbrev invariant_loop : tie.invariant-loop-h
 invariant_loop cells₀ at branch chunks h₀ cells h =
     (h ≤ chunks) × (length cells ≡ length cells₀) × Chosen (16 * h) at branch cells₀ cells
 
-abbrev decreases_loop : tie.decreases-loop
+abbrev decreases_loop : tie.decreases-loop-h
 decreases_loop cells₀ at branch chunks h₀ cells h = chunks - h
 
-loop_holds : tie.Need-loop-init invariant_loop decreases_loop
+loop_holds : tie.Need-loop-h-init invariant_loop decreases_loop
 loop_holds c = (omega arith, refl, record { inside = λ l g. absurd (omega arith); outside = λ i g. refl })
 
-mul-off : tie.Need-overflow-mul-off invariant_loop decreases_loop
+mul-off : tie.Need-overflow_mul-off invariant_loop decreases_loop
 mul-off c = omega arith
 
-add-pick : tie.Need-overflow-add-pick invariant_loop decreases_loop
-add-pick c = let p = c.before.before.before.before.before.requires in omega arith
+add-pick : tie.Need-overflow_add-branch invariant_loop decreases_loop
+add-pick c = let p = c.requires in omega arith
 
-add-pick-2 : tie.Need-overflow-add-pick-2 invariant_loop decreases_loop
-add-pick-2 c = let p = c.before.before.before.before.before.before.requires in omega arith
+add-pick-2 : tie.Need-overflow_add-branch-in-loop-h invariant_loop decreases_loop
+add-pick-2 c = let p = c.requires in omega arith
 
-add-pick-3 : tie.Need-overflow-add-pick-3 invariant_loop decreases_loop
-add-pick-3 c = let p = c.before.before.before.before.before.before.before.requires in omega arith
+add-pick-3 : tie.Need-overflow_add-branch-in-loop-h-2 invariant_loop decreases_loop
+add-pick-3 c = let p = c.requires in omega arith
 
-add-pick-4 : tie.Need-overflow-add-pick-4 invariant_loop decreases_loop
-add-pick-4 c = let p = c.before.before.before.before.before.before.before.before.requires in omega arith
+add-pick-4 : tie.Need-overflow_add-branch-in-loop-h-3 invariant_loop decreases_loop
+add-pick-4 c = let p = c.requires in omega arith
 
-pick-requires : tie.Need-pick-requires invariant_loop decreases_loop
+pick-requires : tie.Need-pick-lanes-requires invariant_loop decreases_loop
 pick-requires c κs =
-    let s = c.before.before.before.before.before.before.before.before in
-    let l = c.before.before.before.before.before.before.loop in
+    let s = c.before.before.before.before.before.before.before in
+    let l = c.loop-h in
     let p = s.requires in
     let long = l.invariant.1 in
     let a : s.args.branch.left + 16 * l.h + 16 ≤ length l.cells = omega arith in
@@ -45,42 +45,42 @@ pick-requires c κs =
     let e : s.args.branch.apart + 16 * l.h + 16 ≤ length l.cells = omega arith in
     (a, b, d, e)
 
-add-put-lanes : tie.Need-overflow-add-put-lanes invariant_loop decreases_loop
-add-put-lanes c = let p = c.before.before.before.before.before.before.before.before.before.before.requires in omega arith
+add-put-lanes : tie.Need-overflow_add-at invariant_loop decreases_loop
+add-put-lanes c = let p = c.requires in omega arith
 
-put-lanes-requires : tie.Need-put-lanes-requires invariant_loop decreases_loop
+put-lanes-requires : tie.Need-put_lanes-requires invariant_loop decreases_loop
 put-lanes-requires c κs =
-    let s = c.before.before.before.before.before.before.before.before.before.before in
-    let l = c.before.before.before.before.before.before.before.before.loop in
+    let s = c.before.before.before.before.before.before.before.before.before in
+    let l = c.loop-h in
     let p = s.requires in
     let long = l.invariant.1 in
     let a : s.args.at + 16 * l.h + 16 ≤ length l.cells = omega arith in
     a
 
-add-h : tie.Need-overflow-add-h invariant_loop decreases_loop
+add-h : tie.Need-overflow_add-h invariant_loop decreases_loop
 add-h c = omega arith
 
-loop_less : tie.Need-loop-smaller invariant_loop decreases_loop
+loop_less : tie.Need-loop-h-smaller invariant_loop decreases_loop
 loop_less c = omega arith
 
-loop_again : tie.Need-loop-preserved invariant_loop decreases_loop
+loop_again : tie.Need-loop-h-preserved invariant_loop decreases_loop
 loop_again c =
-    let s = c.before.before.before.before.before.before.before.before.before.before.before.before.before in
-    let l = c.before.before.before.before.before.before.before.before.before.before.before.loop in
+    let s = c.before.before.before.before.before.before.before.before.before.before.before.before in
+    let l = c.loop-h in
     let p = s.requires in (
       omega arith,
-      c.before.before.put-lanes.auto.0 ∙ l.invariant.1,
-      chunk_more s.args.at l.h s.args.branch s.args.cells.now l.cells c.before.before.before.before.pick.result c.before.before.put-lanes.new.0 l.invariant.2
-          c.before.before.before.before.pick.ensures c.before.before.put-lanes.ensures (omega arith) (omega arith) (omega arith) (omega arith),
+      c.put_lanes.auto.cells ∙ l.invariant.1,
+      chunk_more s.args.at l.h s.args.branch s.args.cells.now l.cells c.pick-lanes.result c.put_lanes.new.cells l.invariant.2
+          c.pick-lanes.ensures c.put_lanes.ensures (omega arith) (omega arith) (omega arith) (omega arith),
     )
 
-same_length : tie.Need-same-length invariant_loop decreases_loop
-same_length c = c.before.loop.invariant.1
+same_length : tie.Need-shape_of-cells invariant_loop decreases_loop
+same_length c = c.loop-h.invariant.1
 
 returns : tie.Need-returns invariant_loop decreases_loop
 returns c =
     let s = c.before.before.before in
-    let l = c.before.loop in
+    let l = c.loop-h in
     let e : l.h ≡ s.args.chunks = omega arith in
     subst (λ x. Chosen (16 * x) s.args.at s.args.branch s.args.cells.now l.cells) e l.invariant.2
 

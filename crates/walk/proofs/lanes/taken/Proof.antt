@@ -6,37 +6,41 @@ use Rattle.walk.proofs.Laying.{is_bit, bit_small, bit_times, rest_times, sum_cho
 use Rattle.walk.proofs.lanes.taken.Statement.{statement}
 use Rattle.walk.proofs.lanes.taken.Tie as tie
 
-equal-requires : tie.Need-equal-requires
-equal-requires c κs = search rules
-
-mul-result : tie.Need-overflow-mul-result
+mul-result : tie.Need-overflow_mul-result
 mul-result c =
-    let a = c.before.args in
-    let e = c.equal.result in
-    omega (arith, bit_times e a.same (is_bit a.x a.y e c.equal.ensures), c.before.ranges.same)
+    let a = c.args in
+    let e = c.equal-e.result in
+    omega (arith, bit_times e a.same (is_bit a.x a.y e c.equal-e.ensures), c.ranges.same)
 
-sub-result : tie.Need-overflow-sub-result
+sub-result : tie.Need-overflow_sub-result
 sub-result c =
-    let a = c.before.args in
-    let e = c.equal.result in
-    omega (arith, bit_small e (is_bit a.x a.y e c.equal.ensures))
+    let a = c.args in
+    let e = c.equal-e.result in
+    omega (arith, bit_small e (is_bit a.x a.y e c.equal-e.ensures))
 
-mul-result-2 : tie.Need-overflow-mul-result-2
+mul-result-2 : tie.Need-overflow_mul-result-2
 mul-result-2 c =
-    let a = c.before.args in
-    let e = c.equal.result in
-    omega (arith, rest_times e a.apart (is_bit a.x a.y e c.equal.ensures), c.before.ranges.apart)
+    let a = c.args in
+    let e = c.equal-e.result in
+    omega (arith, rest_times e a.apart (is_bit a.x a.y e c.equal-e.ensures), c.ranges.apart)
 
-add-result : tie.Need-overflow-add-result
+add-result : tie.Need-overflow_add-result
 add-result c =
-    let a = c.before.args in
-    omega (arith, sum_small a.x a.y c.equal.result a.same a.apart c.equal.ensures (omega arith) (omega arith))
+    let a = c.args in
+    omega (arith, sum_small a.x a.y c.equal-e.result a.same a.apart c.equal-e.ensures (omega arith) (omega arith))
 
 returns : tie.Need-returns
 returns c =
-    let a = c.before.args in
-    sum_chosen a.x a.y c.equal.result a.same a.apart c.equal.ensures
+    let a = c.args in
+    sum_chosen a.x a.y c.equal-e.result a.same a.apart c.equal-e.ensures
 
 pub taken_spec : {M : Type 1} → statement M
 taken_spec =
-    tie.close (tie.spec equal-requires mul-result sub-result mul-result-2 add-result returns)
+    tie.close
+    (tie.spec
+    (λ c κs. search rules)
+    mul-result
+    sub-result
+    mul-result-2
+    add-result
+    returns)

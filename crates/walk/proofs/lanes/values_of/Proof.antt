@@ -9,71 +9,71 @@ use Rattle.walk.proofs.Solving.{place_small, place_fits, copies_more}
 use Rattle.walk.proofs.lanes.values_of.Statement.{statement}
 use Rattle.walk.proofs.lanes.values_of.Tie as tie
 
-abbrev invariant_loop : tie.invariant-loop
+abbrev invariant_loop : tie.invariant-loop-k
 invariant_loop cells positions nodes chunks lane values₀ k₀ values k =
     (k ≤ nodes) × (length values ≡ length values₀) × LaneCopied (16 * chunks) (positions_in positions) cells lane k values
 
-abbrev decreases_loop : tie.decreases-loop
+abbrev decreases_loop : tie.decreases-loop-k
 decreases_loop cells positions nodes chunks lane values₀ k₀ values k = nodes - k
 
-loop_holds : tie.Need-loop-init invariant_loop decreases_loop
+loop_holds : tie.Need-loop-k-init invariant_loop decreases_loop
 loop_holds c = (omega arith, refl, record { copied = λ j h. absurd (omega arith) })
 
-cell-of-requires : tie.Need-cell-of-requires invariant_loop decreases_loop
+cell-of-requires : tie.Need-cell_of-requires invariant_loop decreases_loop
 cell-of-requires c κs =
     let s = c.before.before.before.before.before in
     let p = s.requires in
     let o = p.0 in
     let long = o.long in
-    let low = o.inside c.before.loop.k c.loop-test.true in
+    let low = o.inside c.loop-k.k c.loop-k-test.true in
     (omega arith, omega arith, omega arith)
 
-add-values : tie.Need-overflow-add-values invariant_loop decreases_loop
+add-values : tie.Need-overflow_add-values invariant_loop decreases_loop
 add-values c =
     let s = c.before.before.before.before.before.before in
     let p = s.requires in
-    let low = p.0.inside c.before.before.loop.k c.before.loop-test.true in
-    let e = c.cell-of.ensures in
-    let u = place_small (16 * s.args.chunks) (get_or s.args.positions.now c.before.before.loop.k 0) 2632 (omega arith) (omega arith) (omega arith) in
+    let low = p.0.inside c.loop-k.k c.loop-k-test.true in
+    let e = c.cell_of.ensures in
+    let u = place_small (16 * s.args.chunks) (get_or s.args.positions.now c.loop-k.k 0) 2632 (omega arith) (omega arith) (omega arith) in
     omega arith
 
-shared-slice-read-values : tie.Need-shared-slice-read-values invariant_loop decreases_loop
+shared-slice-read-values : tie.Need-bounds-cells-cell_of invariant_loop decreases_loop
 shared-slice-read-values c =
     let s = c.before.before.before.before.before.before.before in
     let p = s.requires in
-    let low = p.0.inside c.before.before.before.loop.k c.before.before.loop-test.true in
-    let e = c.before.cell-of.ensures in
-    let u = place_fits (16 * s.args.chunks) (get_or s.args.positions.now c.before.before.before.loop.k 0) s.args.nodes (length s.args.cells.now) c.before.cell-of.result e low p.3 in
+    let low = p.0.inside c.loop-k.k c.loop-k-test.true in
+    let e = c.cell_of.ensures in
+    let u = place_fits (16 * s.args.chunks) (get_or s.args.positions.now c.loop-k.k 0) s.args.nodes (length s.args.cells.now) c.cell_of.result e low p.3 in
     omega arith
 
-slice-write-values : tie.Need-slice-write-values invariant_loop decreases_loop
-slice-write-values c = let long = c.before.before.before.loop.invariant.1 in let p = c.before.before.before.before.before.before.before.requires in omega arith
+slice-write-values : tie.Need-bounds-values-k invariant_loop decreases_loop
+slice-write-values c = let long = c.loop-k.invariant.1 in let p = c.requires in omega arith
 
-add-k : tie.Need-overflow-add-k invariant_loop decreases_loop
-add-k c = let p = c.before.before.before.before.before.before.before.requires in omega arith
+add-k : tie.Need-overflow_add-k invariant_loop decreases_loop
+add-k c = let p = c.requires in omega arith
 
-loop_less : tie.Need-loop-smaller invariant_loop decreases_loop
+loop_less : tie.Need-loop-k-smaller invariant_loop decreases_loop
 loop_less c = omega arith
 
-loop_again : tie.Need-loop-preserved invariant_loop decreases_loop
+loop_again : tie.Need-loop-k-preserved invariant_loop decreases_loop
 loop_again c =
     let s = c.before.before.before.before.before.before.before in
-    let l = c.before.before.before.loop in
+    let l = c.loop-k in
     let p = s.requires in
     let long = l.invariant.1 in (
       omega arith,
       length-set l.values l.k _ ∙ long,
       copies_more (16 * s.args.chunks) (positions_in s.args.positions.now) s.args.cells.now s.args.lane l.k l.values _ l.invariant.2 (omega arith)
-          (ap (λ i. get_or s.args.cells.now (i + s.args.lane) 0) c.before.cell-of.ensures),
+          (ap (λ i. get_or s.args.cells.now (i + s.args.lane) 0) c.cell_of.ensures),
     )
 
-same_length : tie.Need-same-length invariant_loop decreases_loop
-same_length c = c.before.loop.invariant.1
+same_length : tie.Need-shape_of-values invariant_loop decreases_loop
+same_length c = c.loop-k.invariant.1
 
 returns : tie.Need-returns invariant_loop decreases_loop
 returns c =
     let s = c.before.before.before.before.before in
-    let l = c.before.loop in
+    let l = c.loop-k in
     subst (λ m. LaneCopied (16 * s.args.chunks) (positions_in s.args.positions.now) s.args.cells.now s.args.lane m l.values)
     (let e : l.k ≡ s.args.nodes = omega arith in e) l.invariant.2
 

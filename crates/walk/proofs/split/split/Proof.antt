@@ -7,67 +7,64 @@ use Rattle.walk.proofs.Splitting.{Splitting, splits_none, more_small, splits_mor
 use Rattle.walk.proofs.split.split.Statement.{statement}
 use Rattle.walk.proofs.split.split.Tie as tie
 
-abbrev invariant_loop : tie.invariant-loop
+abbrev invariant_loop : tie.invariant-loop-fast
 invariant_loop nodes most count sizes fast₀ lanes₀ fast lanes = Splitting sizes count most fast lanes
 
-abbrev decreases_loop : tie.decreases-loop
+abbrev decreases_loop : tie.decreases-loop-fast
 decreases_loop nodes most count sizes fast₀ lanes₀ fast lanes = count - fast
 
-most-chunks-requires : tie.Need-most-chunks-requires invariant_loop decreases_loop
+most-chunks-requires : tie.Need-most_chunks-most-requires invariant_loop decreases_loop
 most-chunks-requires c κs = c.requires.1
 
-mul_most : tie.Need-overflow-mul-most invariant_loop decreases_loop
-mul_most c = let m = c.most-chunks.ensures in omega arith
+mul_most : tie.Need-overflow_mul-most invariant_loop decreases_loop
+mul_most c = let m = c.most_chunks-most.ensures in omega arith
 
-loop_holds : tie.Need-loop-init invariant_loop decreases_loop
-loop_holds c = splits_none _ _ _ (let m = c.before.most-chunks.ensures in omega arith)
+loop_holds : tie.Need-loop-fast-init invariant_loop decreases_loop
+loop_holds c = splits_none _ _ _ (let m = c.most_chunks-most.ensures in omega arith)
 
-array-read-wide : tie.Need-array-read-wide invariant_loop decreases_loop
-array-read-wide c = let t = c.before.before.before.before.requires.0 in let few = t.few in let long = t.sizes_long in omega arith
+array-read-wide : tie.Need-bounds-sizes-fast invariant_loop decreases_loop
+array-read-wide c = let t = c.requires.0 in let few = t.few in let long = t.sizes_long in omega arith
 
-wide-requires : tie.Need-wide-requires invariant_loop decreases_loop
-wide-requires c κs = search rules
-
-mul-more : tie.Need-overflow-mul-more invariant_loop decreases_loop
+mul-more : tie.Need-overflow_mul-more invariant_loop decreases_loop
 mul-more c =
-    let t = c.before.before.before.before.before.requires.0 in
-    let l = c.before.before.loop in
-    let m = c.before.before.before.before.most-chunks.ensures in
-    let q = more_small _ t _ _ _ l.invariant c.before.loop-test.true (omega arith) in
+    let t = c.requires.0 in
+    let l = c.loop-fast in
+    let m = c.most_chunks-most.ensures in
+    let q = more_small _ t _ _ _ l.invariant c.loop-fast-test.true (omega arith) in
     let e = ap (λ x. l.lanes * x) c.wide.ensures.0 in
     omega arith
 
 parted-requires : tie.Need-parted-requires invariant_loop decreases_loop
-parted-requires c κs = let m = c.before.before.before.before.before.most-chunks.ensures in let f = c.before.before.before.loop.invariant.fit in omega arith
+parted-requires c κs = let m = c.most_chunks-most.ensures in let f = c.loop-fast.invariant.fit in omega arith
 
-returns : tie.Need-returns invariant_loop decreases_loop
+returns : tie.Need-returns-then-most-more invariant_loop decreases_loop
 returns c =
     let s = c.before.before.before.before.before.before.before in
-    let m = c.before.before.before.before.before.before.most-chunks.ensures in
+    let m = c.most_chunks-most.ensures in
     let r = c.parted.ensures in
-    splits_all s.args.all s.requires.0 _ _ _ c.before.before.before.before.loop.invariant s.args.nodes _ refl m.1 m.2 c.parted.result r.0 r.1 r.2 r.3
+    splits_all s.args.all s.requires.0 _ _ _ c.loop-fast.invariant s.args.nodes _ refl m.1 m.2 c.parted.result r.0 r.1 r.2 r.3
 
-add-fast : tie.Need-overflow-add-fast invariant_loop decreases_loop
-add-fast c = let t = c.before.before.before.before.before.before.requires.0 in let few = t.few in omega arith
+add-fast : tie.Need-overflow_add-fast invariant_loop decreases_loop
+add-fast c = let t = c.requires.0 in let few = t.few in omega arith
 
-loop_less : tie.Need-loop-smaller invariant_loop decreases_loop
+loop_less : tie.Need-loop-fast-smaller invariant_loop decreases_loop
 loop_less c = omega arith
 
-loop_again : tie.Need-loop-preserved invariant_loop decreases_loop
+loop_again : tie.Need-loop-fast-preserved invariant_loop decreases_loop
 loop_again c =
     let s = c.before.before.before.before.before.before in
-    let l = c.before.before.before.loop in
-    splits_more s.args.all s.requires.0 _ _ _ l.invariant c.before.before.loop-test.true _ (ap (λ x. l.lanes * x) c.before.wide.ensures.0) c.if1.false
+    let l = c.loop-fast in
+    splits_more s.args.all s.requires.0 _ _ _ l.invariant c.loop-fast-test.true _ (ap (λ x. l.lanes * x) c.wide.ensures.0) c.if-most-more.false
 
 parted-requires-2 : tie.Need-parted-requires-2 invariant_loop decreases_loop
-parted-requires-2 c κs = let m = c.before.before.before.most-chunks.ensures in let f = c.before.loop.invariant.fit in omega arith
+parted-requires-2 c κs = let m = c.most_chunks-most.ensures in let f = c.loop-fast.invariant.fit in omega arith
 
-returns_2 : tie.Need-returns-2 invariant_loop decreases_loop
+returns_2 : tie.Need-returns invariant_loop decreases_loop
 returns_2 c =
     let s = c.before.before.before.before.before in
-    let m = c.before.before.before.before.most-chunks.ensures in
-    let r = c.parted2.ensures in
-    splits_all s.args.all s.requires.0 _ _ _ c.before.before.loop.invariant s.args.nodes _ refl m.1 m.2 c.parted2.result r.0 r.1 r.2 r.3
+    let m = c.most_chunks-most.ensures in
+    let r = c.parted-2.ensures in
+    splits_all s.args.all s.requires.0 _ _ _ c.loop-fast.invariant s.args.nodes _ refl m.1 m.2 c.parted-2.result r.0 r.1 r.2 r.3
 
 pub split_spec : {M : Type 1} → statement M
 split_spec =
@@ -79,7 +76,7 @@ split_spec =
     mul_most
     loop_holds
     array-read-wide
-    wide-requires
+    (λ c κs. search rules)
     mul-more
     parted-requires
     returns

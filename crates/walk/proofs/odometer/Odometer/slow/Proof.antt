@@ -7,46 +7,58 @@ use Rattle.walk.proofs.Slowing.{Taking, taking_none, taking_more, taking_all}
 use Rattle.walk.proofs.odometer.Odometer.slow.Statement.{statement}
 use Rattle.walk.proofs.odometer.Odometer.slow.Tie as tie
 
-abbrev invariant_loop : tie.invariant-loop
+abbrev invariant_loop : tie.invariant-loop-j
 invariant_loop fast all count sizes₀ j₀ sizes j = (j ≤ count) × Taking fast all j sizes
 
-abbrev decreases_loop : tie.decreases-loop
+abbrev decreases_loop : tie.decreases-loop-j
 decreases_loop fast all count sizes₀ j₀ sizes j = count - j
 
-sub-count : tie.Need-overflow-sub-count invariant_loop decreases_loop
-sub-count c = let p = c.before.before.requires.1 in omega arith
+sub-count : tie.Need-overflow_sub-count invariant_loop decreases_loop
+sub-count c = let p = c.requires.1 in omega arith
 
-loop_holds : tie.Need-loop-init invariant_loop decreases_loop
+loop_holds : tie.Need-loop-j-init invariant_loop decreases_loop
 loop_holds c = (omega arith, taking_none _ _)
 
-add-sizes : tie.Need-overflow-add-sizes invariant_loop decreases_loop
-add-sizes c = let p = c.before.before.before.before.requires in let few = p.0.few in omega arith
+add-sizes : tie.Need-overflow_add-sizes invariant_loop decreases_loop
+add-sizes c = let p = c.requires in let few = p.0.few in omega arith
 
-array-read-sizes : tie.Need-array-read-sizes invariant_loop decreases_loop
-array-read-sizes c = let p = c.before.before.before.before.requires in let few = p.0.few in let long = p.0.sizes_long in omega arith
+array-read-sizes : tie.Need-bounds-all-fast invariant_loop decreases_loop
+array-read-sizes c = let p = c.requires in let few = p.0.few in let long = p.0.sizes_long in omega arith
 
-array-write-sizes : tie.Need-array-write-sizes invariant_loop decreases_loop
-array-write-sizes c = let p = c.before.before.before.before.requires in let few = p.0.few in let long = c.before.loop.invariant.1.long in omega arith
+array-write-sizes : tie.Need-bounds-sizes-j invariant_loop decreases_loop
+array-write-sizes c = let p = c.requires in let few = p.0.few in let long = c.loop-j.invariant.1.long in omega arith
 
-add-j : tie.Need-overflow-add-j invariant_loop decreases_loop
-add-j c = let p = c.before.before.before.before.requires in let few = p.0.few in omega arith
+add-j : tie.Need-overflow_add-j invariant_loop decreases_loop
+add-j c = let p = c.requires in let few = p.0.few in omega arith
 
-loop_less : tie.Need-loop-smaller invariant_loop decreases_loop
+loop_less : tie.Need-loop-j-smaller invariant_loop decreases_loop
 loop_less c = omega arith
 
-loop_again : tie.Need-loop-preserved invariant_loop decreases_loop
+loop_again : tie.Need-loop-j-preserved invariant_loop decreases_loop
 loop_again c =
-    let p = c.before.before.before.before.requires in
+    let p = c.requires in
     let few = p.0.few in
-    (omega arith, taking_more _ _ _ _ c.before.loop.invariant.1 (omega arith))
+    (omega arith, taking_more _ _ _ _ c.loop-j.invariant.1 (omega arith))
 
 returns : tie.Need-returns invariant_loop decreases_loop
 returns c =
     let s = c.before.before.before.before in
-    let l = c.before.loop in
+    let l = c.loop-j in
     taking_all s.args.self s.args.fast s.requires.0 s.requires.1 l.sizes
     (subst (λ m. Taking s.args.fast s.args.self.sizes m l.sizes) (let e : l.j ≡ s.args.self.count - s.args.fast = (let a = l.invariant.0 in omega arith) in e) l.invariant.1)
 
 pub slow_spec : {M : Type 1} → statement M
 slow_spec =
-    tie.close (tie.spec invariant_loop decreases_loop sub-count loop_holds add-sizes array-read-sizes array-write-sizes add-j loop_less loop_again returns)
+    tie.close
+    (tie.spec
+    invariant_loop
+    decreases_loop
+    sub-count
+    loop_holds
+    add-sizes
+    array-read-sizes
+    array-write-sizes
+    add-j
+    loop_less
+    loop_again
+    returns)
