@@ -5,18 +5,20 @@ use Rattle.decision.proofs.Beginning.{size_variable, size_truth}
 use Rattle.decision.proofs.start.size_at.Statement.{statement}
 use Rattle.decision.proofs.start.size_at.Tie as tie
 
-array-read-result : tie.Need-array-read-result
-array-read-result c = search rules
-
-returns : tie.Need-returns
+returns : tie.Need-returns-then-v-variables
 returns c =
-    let s = c.before.args in
-    sym (size_variable s.t1 s.variables s.v c.if1.true)
+    let s = c.args in
+    sym (size_variable s.tops s.variables s.v c.if-v-variables.true)
 
-returns_2 : tie.Need-returns-2
+returns_2 : tie.Need-returns
 returns_2 c =
-    let s = c.before.args in
-    sym (size_truth s.t1 s.variables s.v c.if1.false)
+    let s = c.args in
+    sym (size_truth s.tops s.variables s.v c.if-v-variables.false)
 
 pub size_at_spec : {M : Type 1} → statement M
-size_at_spec = tie.close (tie.spec array-read-result returns returns_2)
+size_at_spec =
+    tie.close
+    (tie.spec
+    (λ c. search rules)
+    returns
+    returns_2)

@@ -6,16 +6,15 @@ use lib.ListN.{get_or}
 use Rattle.decision.proofs.witness.argument.Statement.{statement}
 use Rattle.decision.proofs.witness.argument.Tie as tie
 
-shared-slice-read-result : tie.Need-shared-slice-read-result
-shared-slice-read-result c = search rules
-
-returns : tie.Need-returns
+returns : tie.Need-returns-then-used
 returns c =
-    let s = c.before.before.args in
-    sym (ap (λ (b : Bool). cond b (get_or s.values.now s.image 0) 0) c.before.if1.true)
-
-returns_2 : tie.Need-returns-2
-returns_2 c = search rules
+    let s = c.args in
+    sym (ap (λ (b : Bool). cond b (get_or s.values.now s.image 0) 0) c.if-used.true)
 
 pub argument_spec : {M : Type 1} → statement M
-argument_spec = tie.close (tie.spec shared-slice-read-result returns returns_2)
+argument_spec =
+    tie.close
+    (tie.spec
+    (λ c. search rules)
+    returns
+    (λ c. search rules))

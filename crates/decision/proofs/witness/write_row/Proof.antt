@@ -38,125 +38,107 @@ module _ (c : tie.Start) where
   low : get_or all.images app 0 < all.nodes
   low = image_fits s c.requires.0 all laid c.args.i c.requires.3
 
-shared-slice-read-wide : tie.Need-shared-slice-read-wide
+shared-slice-read-wide : tie.Need-bounds-apps-i
 shared-slice-read-wide c = let st = c.before.before.before.before.before.before in omega (arith, few st, (laid st).apps_long)
 
-wide-requires : tie.Need-wide-requires
-wide-requires c κs = search rules
-
 -- and as it is read
-module _ (c : tie.After-wide) where
+module _ (c : tie.After-wide-q) where
   abbrev start : tie.Start
   start = c.before.before.before.before.before.before.before
 
   abbrev q : ℕ
-  q = c.wide.result
+  q = c.wide-q.result
 
   q_is : q ≡ app start
-  q_is = c.wide.ensures.0
+  q_is = c.wide-q.ensures.0
 
   q_node : q < start.args.header.nodes
   q_node =
-      let earlier = (laid start).app_before start.args.i start.pre.3 in
-      let nodes_are = start.pre.1.nodes_are in
+      let earlier = (laid start).app_before start.args.i start.requires.3 in
+      let nodes_are = start.requires.1.nodes_are in
       let is = q_is in
       omega arith
 
-node-at-requires : tie.Need-node-at-requires
+node-at-requires : tie.Need-node_at-requires
 node-at-requires c κs =
     let few_symbols = (start c).requires.1.few_symbols in
     let few_nodes = (start c).requires.1.few_nodes in
     let inside = q_node c in
     (few_symbols, omega arith)
 
-add-symbol : tie.Need-overflow-add-symbol
+add-symbol : tie.Need-overflow_add-symbol
 add-symbol c =
-    let few_symbols = (start c.before).pre.1.few_symbols in
-    let few_nodes = (start c.before).pre.1.few_nodes in
+    let few_symbols = (start c.before).requires.1.few_symbols in
+    let few_nodes = (start c.before).requires.1.few_nodes in
     let inside = q_node c.before in
-    let at = c.Node-at.ensures in
+    let at = c.node_at.ensures in
     omega arith
 
-shared-slice-read-symbol : tie.Need-shared-slice-read-symbol
+shared-slice-read-symbol : tie.Need-bounds-problem-node_at
 shared-slice-read-symbol c =
-    let whole = (start c.before.before).pre.1.whole in
+    let whole = (start c.before.before).requires.1.whole in
     let inside = q_node c.before.before in
-    let at = c.before.Node-at.ensures in
+    let at = c.node_at.ensures in
     omega arith
 
-wide-requires-2 : tie.Need-wide-requires-2
-wide-requires-2 c κs = search rules
-
-arity-of-requires : tie.Need-arity-of-requires
-arity-of-requires c κs = search rules
-
-images-of-requires : tie.Need-images-of-requires
+images-of-requires : tie.Need-images_of-xs-requires
 images-of-requires c κs =
     let got = c.before.before.before.before in
     let st = start got in
     let inside = q_node got in (
-      st.pre.0,
-      st.pre.1,
+      st.requires.0,
+      st.requires.1,
       omega arith,
       inside,
       omega arith,
       (laid st).images_long,
-      subst (λ k. take k (all st).images ≡ (state_at (s st) k).images) (sym st.pre.1.nodes_are) (laid st).images_are,
+      subst (λ k. take k (all st).images ≡ (state_at (s st) k).images) (sym st.requires.1.nodes_are) (laid st).images_are,
     )
 
 -- the images of its operands, which are nodes of the table
-module _ (c : tie.After-images-of) where
-  abbrev reading : tie.After-wide
+module _ (c : tie.After-images_of-xs) where
+  abbrev reading : tie.After-wide-q
   reading = c.before.before.before.before.before
 
   abbrev given : tie.Start
   given = start reading
 
-  operands_read : c.images-of.result
+  operands_read : c.images_of-xs.result
       ≡ three (images_of (symbols_of (s given)) (state_at (s given) (node_count (s given))).images (node (nodes_of (s given)) (app given)))
   operands_read =
-      c.images-of.ensures.0
-      ∙ ap₂ (λ (k n : ℕ). three (images_of (symbols_of (s given)) (state_at (s given) k).images (node (nodes_of (s given)) n))) given.pre.1.nodes_are (q_is reading)
+      c.images_of-xs.ensures.0
+      ∙ ap₂ (λ (k n : ℕ). three (images_of (symbols_of (s given)) (state_at (s given) k).images (node (nodes_of (s given)) n))) given.requires.1.nodes_are (q_is reading)
 
-  operand_fits : (j : ℕ) → j < 3 → get_or c.images-of.result j 0 < length given.args.values.now
+  operand_fits : (j : ℕ) → j < 3 → get_or c.images_of-xs.result j 0 < length given.args.values.now
   operand_fits j h =
-      let room = given.pre.4 in
-      let fits = images_fit (s given) given.pre.0 (all given) (laid given) given.args.i given.pre.3 0 given.args.values.now c.images-of.result operands_read j h in
+      let room = given.requires.4 in
+      let fits = images_fit (s given) given.requires.0 (all given) (laid given) given.args.i given.requires.3 0 given.args.values.now c.images_of-xs.result operands_read j h in
       omega arith
 
-array-read-argument : tie.Need-array-read-argument
-array-read-argument c = search rules
-
-argument-requires : tie.Need-argument-requires
+argument-requires : tie.Need-argument-x-requires
 argument-requires c κs = operand_fits c 0 (omega arith)
 
-array-read-argument-2 : tie.Need-array-read-argument-2
-array-read-argument-2 c = search rules
-
-argument-requires-2 : tie.Need-argument-requires-2
+argument-requires-2 : tie.Need-argument-y-requires
 argument-requires-2 c κs = operand_fits c.before 1 (omega arith)
 
-array-read-argument-3 : tie.Need-array-read-argument-3
-array-read-argument-3 c = search rules
-
-argument-requires-3 : tie.Need-argument-requires-3
+argument-requires-3 : tie.Need-argument-z-requires
 argument-requires-3 c κs = operand_fits c.before.before 2 (omega arith)
 
-value-at-requires : tie.Need-value-at-requires
+value-at-requires : tie.Need-value_at-value-requires
 value-at-requires c κs =
     let got = c.before.before.before.before.before.before.before.before in
     let st = start got in
-    let few_nodes = st.pre.1.few_nodes in
+    let few_nodes = st.requires.1.few_nodes in
     let inside = q_node got in
     let images_long = (laid st).images_long in
-    let values-long = st.pre.4 in
+    let values-long = st.requires.4 in
     let fits = low st in
     let is = ap (λ n. get_or (all st).images n 0) (q_is got) in
     (omega arith, omega arith)
 
 -- where the row goes
-module _ (c : tie.After-value-at) where
-  abbrev got : tie.After-wide
+module _ (c : tie.After-value_at-value) where
+  abbrev got : tie.After-wide-q
   got = c.before.before.before.before.before.before.before.before.before
 
   abbrev first : tie.Start
@@ -165,43 +147,37 @@ module _ (c : tie.After-value-at) where
   row_room : 6 + 5 * first.args.i + 5 ≤ 206
   row_room = let f = few first in omega arith
 
-mul_at : tie.Need-overflow-mul-at
+mul_at : tie.Need-overflow_mul-at
 mul_at c = let f = row_room c in omega arith
 
-add_at : tie.Need-overflow-add-at
+add_at : tie.Need-overflow_add-at
 add_at c = let f = row_room c in omega arith
 
-sub-put-row : tie.Need-overflow-sub-put-row
+sub-put-row : tie.Need-slice_bounds-put_row-count
 sub-put-row c = let f = row_room c in let room = (first c).requires.5 in omega arith
 
-part-put-row-start : tie.Need-slice-bounds-put-row-start
+part-put-row-start : tie.Need-slice_bounds-put_row-start
 part-put-row-start c = let f = row_room c in let room = (first c).requires.5 in omega arith
 
-part-put-row-end : tie.Need-slice-bounds-put-row-end
-part-put-row-end c = search rules
-
-put-row-requires : tie.Need-put-row-requires
+put-row-requires : tie.Need-put_row-requires
 put-row-requires c κs =
     let st = first c.before in
     let f = row_room c.before in
-    let room = st.pre.5 in
+    let room = st.requires.5 in
     let at = 6 + 5 * st.args.i in
     let old = st.args.witness.now in
     omega (arith, ap length (tail_whole old at (omega arith)), length-drop at old)
 
-same_length : tie.Need-same-length
-same_length c = search rules
-
 -- the symbol and the arity that were read are those of the application's node
-module _ (c : tie.After-arity-of) where
-  abbrev looked : tie.After-wide
+module _ (c : tie.After-arity_of-arity) where
+  abbrev looked : tie.After-wide-q
   looked = c.before.before.before.before
 
-  symbol_read : (node (nodes_of (s (start looked))) (app (start looked))).sym ≡ c.before.wide2.result
+  symbol_read : (node (nodes_of (s (start looked))) (app (start looked))).sym ≡ c.wide.result
   symbol_read =
       ap (λ k. (node (nodes_of (s (start looked))) k).sym) (sym (q_is looked))
-      ∙ ap (λ (n : Node). n.sym) (node_stands (start looked).pre.1 (q looked) _ c.before.before.before.Node-at.ensures (q_node looked))
-      ∙ sym c.before.wide2.ensures.0
+      ∙ ap (λ (n : Node). n.sym) (node_stands (start looked).requires.1 (q looked) _ c.node_at.ensures (q_node looked))
+      ∙ sym c.wide.ensures.0
 
 returns : tie.Need-returns
 returns c = λ p are.
@@ -211,25 +187,25 @@ returns c = λ p are.
     let given = third.before.before.before in
     let read = given.before in
     let f = few st in
-    let room = st.pre.5 in
+    let room = st.requires.5 in
     let old = st.args.witness.now in
     let i = st.args.i in
     let values = st.args.values.now in
-    put_there old (6 + 5 * i) (omega arith) _ c.before.before.put-row.new.0 c.before.before.put-row.ensures
+    put_there old (6 + 5 * i) (omega arith) _ c.put_row.new.tail c.put_row.ensures
     ∙ ap (λ (r : Row). take (6 + 5 * i) old ++ row_bytes r ++ drop (6 + 5 * i + 5) old)
-    (row_read_lem (s st) st.pre.0 (all st) (laid st) i st.pre.3 p values given.images-of.result (operands_read given)
+    (row_read_lem (s st) st.requires.0 (all st) (laid st) i st.requires.3 p values given.images_of-xs.result (operands_read given)
     _
-    read.arity-of.result
-    third.before.before.argument.result
-    third.before.argument2.result
-    third.argument3.result
-    valued.value-at.result
-    (sym read.before.wide2.ensures.0 ∙ sym (symbol_read read))
-    (read.arity-of.ensures.0 ∙ ap (arity (symbols_of (s st))) (sym (symbol_read read)))
-    third.before.before.argument.ensures
-    third.before.argument2.ensures
-    third.argument3.ensures
-    (valued.value-at.ensures ∙ ap (λ n. get_or values (get_or (all st).images n 0) 0) (q_is (got valued)))
+    read.arity_of-arity.result
+    third.argument-x.result
+    third.argument-y.result
+    third.argument-z.result
+    valued.value_at-value.result
+    (sym read.wide.ensures.0 ∙ sym (symbol_read read))
+    (read.arity_of-arity.ensures.0 ∙ ap (arity (symbols_of (s st))) (sym (symbol_read read)))
+    third.argument-x.ensures
+    third.argument-y.ensures
+    third.argument-z.ensures
+    (valued.value_at-value.ensures ∙ ap (λ n. get_or values (get_or (all st).images n 0) 0) (q_is (got valued)))
     are)
 
 pub write_row_spec : {M : Type 1} → statement M
@@ -237,25 +213,25 @@ write_row_spec =
     tie.close
     (tie.spec
     shared-slice-read-wide
-    wide-requires
+    (λ c κs. search rules)
     node-at-requires
     add-symbol
     shared-slice-read-symbol
-    wide-requires-2
-    arity-of-requires
+    (λ c κs. search rules)
+    (λ c κs. search rules)
     images-of-requires
-    array-read-argument
+    (λ c. search rules)
     argument-requires
-    array-read-argument-2
+    (λ c. search rules)
     argument-requires-2
-    array-read-argument-3
+    (λ c. search rules)
     argument-requires-3
     value-at-requires
     mul_at
     add_at
     sub-put-row
     part-put-row-start
-    part-put-row-end
+    (λ c. search rules)
     put-row-requires
-    same_length
+    (λ c. search rules)
     returns)

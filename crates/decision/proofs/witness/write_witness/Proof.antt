@@ -13,10 +13,10 @@ use Rattle.decision.proofs.WitnessLaws.{Writing, rows_many, writing_none, writin
 use Rattle.decision.proofs.witness.write_witness.Statement.{statement}
 use Rattle.decision.proofs.witness.write_witness.Tie as tie
 
-abbrev invariant_loop : tie.invariant-loop
+abbrev invariant_loop : tie.invariant-loop-i
 invariant_loop problem images apps all values witness₀ header count i₀ witness i = Writing problem values witness₀ count witness i
 
-abbrev decreases_loop : tie.decreases-loop
+abbrev decreases_loop : tie.decreases-loop-i
 decreases_loop problem images apps all values witness₀ header count i₀ witness i = count - i
 
 few : (c : tie.Start invariant_loop decreases_loop) → c.args.all.count ≤ 40
@@ -24,17 +24,11 @@ few c =
     let s = c.args.problem.now in
     omega (arith, apps_few s c.requires.0 (node_count s) (omega arith), c.requires.1.laid.count_is)
 
-header-of-requires : tie.Need-header-of-requires invariant_loop decreases_loop
-header-of-requires c κs = search rules
-
-cast-put-head : tie.Need-overflow-cast-put-head invariant_loop decreases_loop
-cast-put-head c = search rules
-
-put-head-requires : tie.Need-put-head-requires invariant_loop decreases_loop
-put-head-requires c κs = let room = c.before.before.before.before.before.before.before.requires.3 in omega arith
+put-head-requires : tie.Need-put_head-requires invariant_loop decreases_loop
+put-head-requires c κs = let room = c.requires.3 in omega arith
 
 -- after the head
-module _ (c : tie.After-put-head invariant_loop decreases_loop) where
+module _ (c : tie.After-put_head invariant_loop decreases_loop) where
   abbrev start : tie.Start invariant_loop decreases_loop
   start = c.before.before.before.before.before.before.before.before
 
@@ -42,70 +36,70 @@ module _ (c : tie.After-put-head invariant_loop decreases_loop) where
   count = start.args.all.count
 
   abbrev w₀ : List ℕ
-  w₀ = c.put-head.new.0
+  w₀ = c.put_head.new.witness
 
   head_put : w₀ ≡ over (head_bytes count) start.args.witness.now
   head_put =
-      c.put-head.ensures
+      c.put_head.ensures
       ∙ ap (λ k. over (head_bytes k) start.args.witness.now) (let f = few start in let e : count % 256 ≡ count = omega arith in e)
 
   same_room : length w₀ ≡ length start.args.witness.now
-  same_room = c.put-head.auto.0
+  same_room = c.put_head.auto.witness
 
-loop_holds : tie.Need-loop-init invariant_loop decreases_loop
+loop_holds : tie.Need-loop-i-init invariant_loop decreases_loop
 loop_holds c =
     let put = c.before.before in
     let s = start put in
     let problem = s.args.problem.now in
-    writing_none problem s.args.values.now (w₀ put) (count put) (rows_many problem s.pre.0 _ s.pre.1.laid) (w₀ put) refl
+    writing_none problem s.args.values.now (w₀ put) (count put) (rows_many problem s.requires.0 _ s.requires.1.laid) (w₀ put) refl
     (head_stands (count put) s.args.witness.now (w₀ put) (head_put put))
 
-write-row-requires : tie.Need-write-row-requires invariant_loop decreases_loop
+write-row-requires : tie.Need-write_row-requires invariant_loop decreases_loop
 write-row-requires c κs =
-    let l = c.before.before.loop in
+    let l = c.loop-i in
     let put = c.before.before.before.before.before in
     let s = start put in
-    let room = s.pre.3 in
+    let room = s.requires.3 in
     let same = same_room put in
     let long = l.invariant.long in (
-      s.pre.0,
-      put.before.before.header_of.ensures,
-      s.pre.1,
-      c.before.loop-test.true,
-      s.pre.2,
+      s.requires.0,
+      put.header_of-header.ensures,
+      s.requires.1,
+      c.loop-i-test.true,
+      s.requires.2,
       omega arith,
     )
 
-add-i : tie.Need-overflow-add-i invariant_loop decreases_loop
-add-i c = let f = few (start c.before.before.before.before.before.before.before.before) in let t = c.before.before.before.before.loop-test.true in omega arith
+add-i : tie.Need-overflow_add-i invariant_loop decreases_loop
+add-i c = let f = few (start c.before.before.before.before.before.before.before.before) in let t = c.loop-i-test.true in omega arith
 
-loop_less : tie.Need-loop-smaller invariant_loop decreases_loop
+loop_less : tie.Need-loop-i-smaller invariant_loop decreases_loop
 loop_less c = omega arith
 
-loop_again : tie.Need-loop-preserved invariant_loop decreases_loop
+loop_again : tie.Need-loop-i-preserved invariant_loop decreases_loop
 loop_again c =
-    let l = c.before.before.before.before.before.loop in
+    let l = c.loop-i in
     let put = c.before.before.before.before.before.before.before.before in
     let s = start put in
-    writing_more s.args.problem.now s.args.values.now (w₀ put) (count put) l.witness l.i l.invariant _ c.before.before.before.before.loop-test.true
-    c.before.before.write-row.auto.1.1.1.1.1.1.1.0 c.before.before.write-row.ensures
+    writing_more s.args.problem.now s.args.values.now (w₀ put) (count put) l.witness l.i l.invariant _ c.loop-i-test.true
+    c.write_row.auto.witness c.write_row.ensures
 
-mul-result : tie.Need-overflow-mul-result invariant_loop decreases_loop
+mul-result : tie.Need-overflow_mul-result invariant_loop decreases_loop
 mul-result c = let f = few (start c.before.before.before.before) in omega arith
 
-add-result : tie.Need-overflow-add-result invariant_loop decreases_loop
+add-result : tie.Need-overflow_add-result invariant_loop decreases_loop
 add-result c = let f = few (start c.before.before.before.before) in omega arith
 
-same_length : tie.Need-same-length invariant_loop decreases_loop
-same_length c = c.before.loop.invariant.long ∙ same_room c.before.before.before.before
+same_length : tie.Need-shape_of-witness invariant_loop decreases_loop
+same_length c = c.loop-i.invariant.long ∙ same_room c.before.before.before.before
 
 returns : tie.Need-returns invariant_loop decreases_loop
 returns c =
-    let l = c.before.loop in
+    let l = c.loop-i in
     let put = c.before.before.before.before in
     let s = start put in
     witness_whole (count put) s.args.witness.now (w₀ put) (head_put put) s.args.problem.now s.args.values.now l.witness l.i l.invariant
-    c.loop-test.false
+    c.loop-i-test.false
 
 pub write_witness_spec : {M : Type 1} → statement M
 write_witness_spec =
@@ -113,8 +107,8 @@ write_witness_spec =
     (tie.spec
     invariant_loop
     decreases_loop
-    header-of-requires
-    cast-put-head
+    (λ c κs. search rules)
+    (λ c. search rules)
     put-head-requires
     loop_holds
     write-row-requires

@@ -34,90 +34,69 @@ some_token (Lexeme.Word n) o text = (word (name_of text n), refl)
 not_closing : (text : List ℕ) (l : Lexeme) → OneOf OTHERS (tag_of l) → is_token closing (lexeme_read text l) ≡ false
 not_closing text l o = other_kind text closing l (λ e. miss OTHERS 2 tt (subst (OneOf OTHERS) e o))
 
-enum_told : tie.Need-enum-told
-enum_told c = search rules
-
-enum_told_2 : tie.Need-enum-told-2
-enum_told_2 c = search rules
-
-ready-requires : tie.Need-ready-requires
-ready-requires c κs = search rules
-
-returns : tie.Need-returns
+returns : tie.Need-returns-then-ready
 returns c =
     let told = c.before.before in
-    let e = told.enum-told2.given.1 in
+    let e = told.in-Closing.is in
     record {
       sound = λ text. (closing, ap (lexeme_read text) e);
-      says = λ text sig arity n seen. (ap (lexeme_read text) e, sym (c.before.ready.ensures sig arity n seen) ∙ c.if1.true);
+      says = λ text sig arity n seen. (ap (lexeme_read text) e, sym (c.ready.ensures sig arity n seen) ∙ c.if-ready.true);
     }
 
-wants-requires : tie.Need-wants-requires
-wants-requires c κs = search rules
+returns_2 : tie.Need-returns-in-End
+returns_2 c = record { sound = tt; says = λ text sig arity n seen. inl (ap (lexeme_read text) c.in-End.is) }
 
-enum_told_3 : tie.Need-enum-told-3
-enum_told_3 c = search rules
-
-enum_told_4 : tie.Need-enum-told-4
-enum_told_4 c = search rules
-
-enum-told-5 : tie.Need-enum-told-5
-enum-told-5 c = search rules
-
-returns_2 : tie.Need-returns-2
-returns_2 c = record { sound = tt; says = λ text sig arity n seen. inl (ap (lexeme_read text) c.enum_told.given.1) }
-
-returns_3 : tie.Need-returns-3
+returns_3 : tie.Need-returns-else-ready
 returns_3 c =
     let told = c.before.before in
-    let e = told.enum-told2.given.1 in
+    let e = told.in-Closing.is in
     record {
       sound = tt;
-      says = λ text sig arity n seen. inr (inl (ap (lexeme_read text) e, sym (c.before.ready.ensures sig arity n seen) ∙ c.if1.false));
+      says = λ text sig arity n seen. inr (inl (ap (lexeme_read text) e, sym (c.ready.ensures sig arity n seen) ∙ c.if-ready.false));
     }
 
-returns_4 : tie.Need-returns-4
+returns_4 : tie.Need-returns-in-Term
 returns_4 c =
-    let wanted = c.before.before in
-    let others = wanted.before.match.keys3 in
-    let l = wanted.before.before.args.lexeme in
+    let wanted = c.before in
+    let others = wanted.in_default.in_default-own.keys3 in
+    let l = wanted.args.lexeme in
     record {
       sound = some_token l others;
-      says = λ text sig arity n seen. (not_closing text l others, sym (wanted.wants.ensures sig arity n seen) ∙ ap wanted_read c.enum-told3.given.1);
+      says = λ text sig arity n seen. (not_closing text l others, sym (wanted.wants.ensures sig arity n seen) ∙ ap wanted_read c.in-Term.is);
     }
 
-returns_5 : tie.Need-returns-5
+returns_5 : tie.Need-returns-in-Formula
 returns_5 c =
-    let wanted = c.before.before in
-    let others = wanted.before.match.keys3 in
-    let l = wanted.before.before.args.lexeme in
+    let wanted = c.before in
+    let others = wanted.in_default.in_default-own.keys3 in
+    let l = wanted.args.lexeme in
     record {
       sound = some_token l others;
-      says = λ text sig arity n seen. (not_closing text l others, sym (wanted.wants.ensures sig arity n seen) ∙ ap wanted_read c.enum-told4.given.1);
+      says = λ text sig arity n seen. (not_closing text l others, sym (wanted.wants.ensures sig arity n seen) ∙ ap wanted_read c.in-Formula.is);
     }
 
-returns_6 : tie.Need-returns-6
+returns_6 : tie.Need-returns-in-Nothing
 returns_6 c =
-    let wanted = c.before.before in
-    let others = wanted.before.match.keys3 in
-    let l = wanted.before.before.args.lexeme in
+    let wanted = c.before in
+    let others = wanted.in_default.in_default-own.keys3 in
+    let l = wanted.args.lexeme in
     record {
       sound = tt;
-      says = λ text sig arity n seen. inr (inr (not_closing text l others, sym (wanted.wants.ensures sig arity n seen) ∙ ap wanted_read c.enum-told5.given.1));
+      says = λ text sig arity n seen. inr (inr (not_closing text l others, sym (wanted.wants.ensures sig arity n seen) ∙ ap wanted_read c.in-Nothing.is));
     }
 
 pub follows_spec : {M : Type 1} → statement M
 follows_spec =
     tie.close
     (tie.spec
-    enum_told
-    enum_told_2
-    ready-requires
+    (λ c. search rules)
+    (λ c. search rules)
+    (λ c κs. search rules)
     returns
-    wants-requires
-    enum_told_3
-    enum_told_4
-    enum-told-5
+    (λ c κs. search rules)
+    (λ c. search rules)
+    (λ c. search rules)
+    (λ c. search rules)
     returns_2
     returns_3
     returns_4

@@ -26,42 +26,39 @@ no_head sig s none f = tt
 no_head sig s (some x) f = bracketed_none sig s x f
 
 -- the symbol that is found
-module _ (c : tie.After-known-told) where
+module _ (c : tie.In-Symbol) where
   abbrev begin : tie.Start
-  begin = c.before.before.before.before.before
+  begin = c.before.before.before
 
   abbrev text : List ℕ
   text = begin.args.text.now
 
   abbrev found : Name
-  found = c.before.lexeme.given.0.0
+  found = c.in-Symbol.name
 
   is_symbol : begin.args.lexeme ≡ Lexeme.Symbol found
-  is_symbol = c.before.lexeme.given.1
+  is_symbol = c.in-Symbol.is
 
   inside : NameWithin text found
-  inside = subst (LexemeFits text) is_symbol begin.pre.1
+  inside = subst (LexemeFits text) is_symbol begin.requires.1
 
 headed : (sig : List Symbol) (s : Sort) (x : tokens.Token) (o : Option tokens.Token) → o ≡ some x → (r : Headed) → HeadedIs sig (bracketed sig s x) r → HeadIs sig s o r
 headed sig s x o e (Headed.Head h) i = (x, e, i.0, i.1)
 headed sig s x o e Headed.Nothing i = subst (NoHead sig s) (sym e) i
 
-enum-known-lexeme : tie.Need-enum-known-lexeme
-enum-known-lexeme c = search rules
-
-returns : tie.Need-returns
+returns : tie.Need-returns-in_default
 returns c =
     let s = c.before.before.before in
     record {
       small = tt;
       head = λ sn cs symbols.
-          no_head (symbols_in cs) (sort_is s.args.formula) (lexeme_read s.args.text.now s.args.lexeme) (no_symbol_there s.args.text.now s.args.lexeme c.match.keys2);
+          no_head (symbols_in cs) (sort_is s.args.formula) (lexeme_read s.args.text.now s.args.lexeme) (no_symbol_there s.args.text.now s.args.lexeme c.in_default.in_default-own.keys2);
     }
 
 bracketed-requires : tie.Need-bracketed-requires
 bracketed-requires c κs = ((begin c).requires.0, inside c)
 
-returns_2 : tie.Need-returns-2
+returns_2 : tie.Need-returns
 returns_2 c =
     let known = c.before in
     record {
@@ -72,4 +69,10 @@ returns_2 c =
     }
 
 pub head_at_spec : {M : Type 1} → statement M
-head_at_spec = tie.close (tie.spec enum-known-lexeme returns bracketed-requires returns_2)
+head_at_spec =
+    tie.close
+    (tie.spec
+    (λ c. search rules)
+    returns
+    bracketed-requires
+    returns_2)

@@ -24,67 +24,51 @@ bar_by_lem false false true false e = e
 bar_by_lem false false false true e = e
 bar_by_lem false false false false e = e
 
-white-requires : tie.Need-white-requires
-white-requires c κs = search rules
-
 -- what the tests on the way have ruled out
-no_white : (c : tie.Else1) → white_space c.before.before.args.b ≡ false
-no_white c = sym c.before.white.ensures ∙ c.if1.false
+no_white : (c : tie.Else-white) → white_space c.args.b ≡ false
+no_white c = sym c.white.ensures ∙ c.if-white.false
 
-no_high : (c : tie.Else2) → within 128 255 c.before.before.before.before.args.b ≡ false
-no_high c = sym c.before.within.ensures ∙ c.if2.false
+no_high : (c : tie.Else-within) → within 128 255 c.args.b ≡ false
+no_high c = sym c.within.ensures ∙ c.if-within.false
 
-returns : tie.Need-returns
+returns : tie.Need-returns-then-white
 returns c =
-    let b = c.before.before.args.b in
+    let b = c.args.b in
     bar_by_lem (white_space b) (within 32 126 b) (others b) (within 128 255 b)
-    (or_first (white_space b) (within 128 255 b || (not (others b) && within 32 126 b)) (sym c.before.white.ensures ∙ c.if1.true))
+    (or_first (white_space b) (within 128 255 b || (not (others b) && within 32 126 b)) (sym c.white.ensures ∙ c.if-white.true))
 
-within-requires : tie.Need-within-requires
-within-requires c κs = search rules
-
-returns_2 : tie.Need-returns-2
+returns_2 : tie.Need-returns-then-within
 returns_2 c =
-    let b = c.before.before.before.before.args.b in
+    let b = c.args.b in
     bar_by_lem (white_space b) (within 32 126 b) (others b) (within 128 255 b)
     (or_later (white_space b) (within 128 255 b || (not (others b) && within 32 126 b)) (no_white c.before.before)
-    (or_first (within 128 255 b) (not (others b) && within 32 126 b) (sym c.before.within.ensures ∙ c.if2.true)))
+    (or_first (within 128 255 b) (not (others b) && within 32 126 b) (sym c.within.ensures ∙ c.if-within.true)))
 
-slice-aggregate-is-of : tie.Need-slice-aggregate-is-of
-slice-aggregate-is-of c = search rules
-
-is-of-requires : tie.Need-is-of-requires
-is-of-requires c κs = search rules
-
-returns_3 : tie.Need-returns-3
+returns_3 : tie.Need-returns-then-is_of
 returns_3 c =
-    let b = c.before.before.before.before.before.before.before.args.b in
-    bar_by_lem (white_space b) (within 32 126 b) (others b) (within 128 255 b)
-    (or_later (white_space b) (within 128 255 b || (not (others b) && within 32 126 b)) (no_white c.before.before.before.before.before)
-    (or_later (within 128 255 b) (not (others b) && within 32 126 b) (no_high c.before.before.before)
-    (sym (ap (λ t. not t && within 32 126 b) (sym c.before.is-of.ensures ∙ c.if3.true)))))
-
-within-requires-2 : tie.Need-within-requires-2
-within-requires-2 c κs = search rules
-
-returns_4 : tie.Need-returns-4
-returns_4 c =
-    let b = c.before.before.before.before.before.before.before.before.args.b in
+    let b = c.args.b in
     bar_by_lem (white_space b) (within 32 126 b) (others b) (within 128 255 b)
     (or_later (white_space b) (within 128 255 b || (not (others b) && within 32 126 b)) (no_white c.before.before.before.before.before.before)
     (or_later (within 128 255 b) (not (others b) && within 32 126 b) (no_high c.before.before.before.before)
-    (c.within2.ensures ∙ sym (ap (λ t. not t && within 32 126 b) (sym c.before.before.is-of.ensures ∙ c.before.if3.false)))))
+    (sym (ap (λ t. not t && within 32 126 b) (sym c.is_of.ensures ∙ c.if-is_of.true)))))
+
+returns_4 : tie.Need-returns
+returns_4 c =
+    let b = c.args.b in
+    bar_by_lem (white_space b) (within 32 126 b) (others b) (within 128 255 b)
+    (or_later (white_space b) (within 128 255 b || (not (others b) && within 32 126 b)) (no_white c.before.before.before.before.before.before.before)
+    (or_later (within 128 255 b) (not (others b) && within 32 126 b) (no_high c.before.before.before.before.before)
+    (c.within-2.ensures ∙ sym (ap (λ t. not t && within 32 126 b) (sym c.is_of.ensures ∙ c.if-is_of.false)))))
 
 pub bar_byte_spec : {M : Type 1} → statement M
 bar_byte_spec =
     tie.close
     (tie.spec
-    white-requires
+    (λ c κs. search rules)
     returns
-    within-requires
+    (λ c κs. search rules)
     returns_2
-    slice-aggregate-is-of
-    is-of-requires
+    (λ c κs. search rules)
     returns_3
-    within-requires-2
+    (λ c κs. search rules)
     returns_4)

@@ -10,49 +10,49 @@ use Rattle.terms.proofs.ByteLaws.{of_step}
 use Rattle.terms.proofs.bytes.is_of.Statement.{statement}
 use Rattle.terms.proofs.bytes.is_of.Tie as tie
 
-abbrev invariant_loop : tie.invariant-loop
+abbrev invariant_loop : tie.invariant-loop-i
 invariant_loop few b i₀ i = (i ≤ length few) × (is_of (drop i few) b ≡ is_of few b)
 
-abbrev decreases_loop : tie.decreases-loop
+abbrev decreases_loop : tie.decreases-loop-i
 decreases_loop few b i₀ i = length few - i
 
-loop_holds : tie.Need-loop-init invariant_loop decreases_loop
+loop_holds : tie.Need-loop-i-init invariant_loop decreases_loop
 loop_holds c = (omega arith, refl)
 
-shared-slice-read-if1 : tie.Need-shared-slice-read-if1 invariant_loop decreases_loop
+shared-slice-read-if1 : tie.Need-bounds-few-i invariant_loop decreases_loop
 shared-slice-read-if1 c = omega arith
 
-returns : tie.Need-returns invariant_loop decreases_loop
+returns : tie.Need-returns-then-b-few invariant_loop decreases_loop
 returns c =
     let head = c.before.before.before in
-    let few = head.before.args.few.now in
+    let few = head.args.few.now in
     sym
-    (of_step few head.before.args.b head.loop.i (omega arith)
-    ∙ ap (λ t. t || is_of (drop (head.loop.i + 1) few) head.before.args.b) (eq-eqb _ _ c.if1.true))
-    ∙ head.loop.invariant.1
+    (of_step few head.args.b head.loop-i.i (omega arith)
+    ∙ ap (λ t. t || is_of (drop (head.loop-i.i + 1) few) head.args.b) (eq-eqb _ _ c.if-b-few.true))
+    ∙ head.loop-i.invariant.1
 
-add-i : tie.Need-overflow-add-i invariant_loop decreases_loop
+add-i : tie.Need-overflow_add-i invariant_loop decreases_loop
 add-i c = omega arith
 
-loop_less : tie.Need-loop-smaller invariant_loop decreases_loop
+loop_less : tie.Need-loop-i-smaller invariant_loop decreases_loop
 loop_less c = omega arith
 
-loop_again : tie.Need-loop-preserved invariant_loop decreases_loop
+loop_again : tie.Need-loop-i-preserved invariant_loop decreases_loop
 loop_again c =
     let head = c.before.before.before in
-    let few = head.before.args.few.now in (
+    let few = head.args.few.now in (
       omega arith,
       sym
-          (of_step few head.before.args.b head.loop.i (omega arith)
-          ∙ ap (λ t. t || is_of (drop (head.loop.i + 1) few) head.before.args.b) (ne_eqb _ _ c.if1.false))
-          ∙ head.loop.invariant.1,
+          (of_step few head.args.b head.loop-i.i (omega arith)
+          ∙ ap (λ t. t || is_of (drop (head.loop-i.i + 1) few) head.args.b) (ne_eqb _ _ c.if-b-few.false))
+          ∙ head.loop-i.invariant.1,
     )
 
-returns_2 : tie.Need-returns-2 invariant_loop decreases_loop
+returns_2 : tie.Need-returns invariant_loop decreases_loop
 returns_2 c =
     let head = c.before in
-    ap (λ l. is_of l head.before.args.b) (sym (drop_of_length-le head.before.args.few.now {i = head.loop.i} (omega arith)))
-    ∙ head.loop.invariant.1
+    ap (λ l. is_of l head.args.b) (sym (drop_of_length-le head.args.few.now {i = head.loop-i.i} (omega arith)))
+    ∙ head.loop-i.invariant.1
 
 pub is_of_spec : {M : Type 1} → statement M
 is_of_spec =

@@ -12,63 +12,63 @@ use Rattle.terms.proofs.ByteLaws.{same_step, lengths_differ}
 use Rattle.terms.proofs.bytes.same.Statement.{statement}
 use Rattle.terms.proofs.bytes.same.Tie as tie
 
-abbrev invariant_loop : tie.invariant-loop
+abbrev invariant_loop : tie.invariant-loop-i
 invariant_loop a b i₀ i = (i ≤ length a) × (length a ≡ length b) × (same_bytes (drop i a) (drop i b) ≡ same_bytes a b)
 
-abbrev decreases_loop : tie.decreases-loop
+abbrev decreases_loop : tie.decreases-loop-i
 decreases_loop a b i₀ i = length a - i
 
-returns : tie.Need-returns invariant_loop decreases_loop
-returns c = sym (lengths_differ c.before.args.a.now c.before.args.b.now c.if1.true)
+returns : tie.Need-returns-then-a-b invariant_loop decreases_loop
+returns c = sym (lengths_differ c.args.a.now c.args.b.now c.if-a-b.true)
 
-loop_holds : tie.Need-loop-init invariant_loop decreases_loop
+loop_holds : tie.Need-loop-i-init invariant_loop decreases_loop
 loop_holds c = (omega arith, omega arith, refl)
 
-shared-slice-read-if2 : tie.Need-shared-slice-read-if2 invariant_loop decreases_loop
+shared-slice-read-if2 : tie.Need-bounds-a-i invariant_loop decreases_loop
 shared-slice-read-if2 c = omega arith
 
-shared-slice-read-if2-2 : tie.Need-shared-slice-read-if2-2 invariant_loop decreases_loop
+shared-slice-read-if2-2 : tie.Need-bounds-b-i invariant_loop decreases_loop
 shared-slice-read-if2-2 c = omega arith
 
 past : (s : List ℕ) (i : ℕ) → length s ≤ i → drop i s ≡ []
 past s i h = drop_of_length-le s {i = i} h
 
 -- at the loop's head: the comparison from the next byte on, behind the test of this one
-module _ (head : tie.At-loop invariant_loop decreases_loop) where
+module _ (head : tie.At-loop-i invariant_loop decreases_loop) where
   abbrev a : List ℕ
-  a = head.before.before.args.a.now
+  a = head.args.a.now
 
   abbrev b : List ℕ
-  b = head.before.before.args.b.now
+  b = head.args.b.now
 
-  same_by : {t : Bool} → head.loop.i < length a → eqb (get_or a head.loop.i 0) (get_or b head.loop.i 0) ≡ t
-      → same_bytes (drop head.loop.i a) (drop head.loop.i b) ≡ (t && same_bytes (drop (head.loop.i + 1) a) (drop (head.loop.i + 1) b))
+  same_by : {t : Bool} → head.loop-i.i < length a → eqb (get_or a head.loop-i.i 0) (get_or b head.loop-i.i 0) ≡ t
+      → same_bytes (drop head.loop-i.i a) (drop head.loop-i.i b) ≡ (t && same_bytes (drop (head.loop-i.i + 1) a) (drop (head.loop-i.i + 1) b))
   same_by h e =
-      same_step a b head.loop.i h (omega arith)
-      ∙ ap (λ t. t && same_bytes (drop (head.loop.i + 1) a) (drop (head.loop.i + 1) b)) e
+      same_step a b head.loop-i.i h (omega arith)
+      ∙ ap (λ t. t && same_bytes (drop (head.loop-i.i + 1) a) (drop (head.loop-i.i + 1) b)) e
 
-returns_2 : tie.Need-returns-2 invariant_loop decreases_loop
+returns_2 : tie.Need-returns-then-a-i invariant_loop decreases_loop
 returns_2 c =
     let head = c.before.before.before.before in
-    sym (same_by head (omega arith) (ne_eqb _ _ c.if2.true)) ∙ head.loop.invariant.2
+    sym (same_by head (omega arith) (ne_eqb _ _ c.if-a-i.true)) ∙ head.loop-i.invariant.2
 
-add-i : tie.Need-overflow-add-i invariant_loop decreases_loop
+add-i : tie.Need-overflow_add-i invariant_loop decreases_loop
 add-i c = omega arith
 
-loop_less : tie.Need-loop-smaller invariant_loop decreases_loop
+loop_less : tie.Need-loop-i-smaller invariant_loop decreases_loop
 loop_less c = omega arith
 
-loop_again : tie.Need-loop-preserved invariant_loop decreases_loop
+loop_again : tie.Need-loop-i-preserved invariant_loop decreases_loop
 loop_again c =
     let head = c.before.before.before.before in
-    (omega arith, omega arith, sym (same_by head (omega arith) (eq-eqb _ _ c.if2.false)) ∙ head.loop.invariant.2)
+    (omega arith, omega arith, sym (same_by head (omega arith) (eq-eqb _ _ c.if-a-i.false)) ∙ head.loop-i.invariant.2)
 
-returns_3 : tie.Need-returns-3 invariant_loop decreases_loop
+returns_3 : tie.Need-returns invariant_loop decreases_loop
 returns_3 c =
     let head = c.before in
-    ap₂ {C = Bool} same_bytes (sym (past c.before.before.before.args.a.now head.loop.i (omega arith)))
-    (sym (past c.before.before.before.args.b.now head.loop.i (omega arith)))
-    ∙ head.loop.invariant.2
+    ap₂ {C = Bool} same_bytes (sym (past c.args.a.now head.loop-i.i (omega arith)))
+    (sym (past c.args.b.now head.loop-i.i (omega arith)))
+    ∙ head.loop-i.invariant.2
 
 pub same_spec : {M : Type 1} → statement M
 same_spec =

@@ -7,62 +7,59 @@ use Rattle.terms.proofs.DeclarationLaws.{one_more_lem, after_one, no_more, Count
 use Rattle.terms.proofs.declarations.arguments.Statement.{statement}
 use Rattle.terms.proofs.declarations.arguments.Tie as tie
 
-abbrev invariant_loop : tie.invariant-loop
+abbrev invariant_loop : tie.invariant-loop-arity
 invariant_loop text from at₀ arity₀ at arity = Counting text from at arity
 
-abbrev decreases_loop : tie.decreases-loop
+abbrev decreases_loop : tie.decreases-loop-arity
 decreases_loop text from at₀ arity₀ at arity = 3 - arity
 
-loop_holds : tie.Need-loop-init invariant_loop decreases_loop
+loop_holds : tie.Need-loop-arity-init invariant_loop decreases_loop
 loop_holds c = record { few = omega arith; inside = omega arith; so_far = omega arith; same_end = refl }
 
-next_requires : tie.Need-next-requires invariant_loop decreases_loop
-next_requires c κs = c.before.loop.invariant.inside
-
-enum_told : tie.Need-enum-told invariant_loop decreases_loop
-enum_told c = search rules
+next_requires : tie.Need-next-token-requires invariant_loop decreases_loop
+next_requires c κs = c.loop-arity.invariant.inside
 
 skip-requires : tie.Need-skip-requires invariant_loop decreases_loop
-skip-requires c κs = c.before.before.before.loop.invariant.inside
+skip-requires c κs = c.loop-arity.invariant.inside
 
-returns : tie.Need-returns invariant_loop decreases_loop
+returns : tie.Need-returns-in_default invariant_loop decreases_loop
 returns c =
     let lexed = c.before.before in
     let head = lexed.before.before in
-    let text = head.before.before.args.text.now in
-    counted_to text head.before.before.args.from head.loop.at head.loop.arity _ head.loop.invariant
-    (λ h. no_more text head.loop.at lexed.next.result lexed.next.ensures c.before.match.keys2) refl c.skip.ensures
+    let text = head.args.text.now in
+    counted_to text head.args.from head.loop-arity.at head.loop-arity.arity _ head.loop-arity.invariant
+    (λ h. no_more text head.loop-arity.at lexed.next-token.result lexed.next-token.ensures c.in_default.in_default-own.keys2) refl c.skip.ensures
 
-add-arity : tie.Need-overflow-add-arity invariant_loop decreases_loop
+add-arity : tie.Need-overflow_add-arity invariant_loop decreases_loop
 add-arity c = omega arith
 
-loop_less : tie.Need-loop-smaller invariant_loop decreases_loop
+loop_less : tie.Need-loop-arity-smaller invariant_loop decreases_loop
 loop_less c = omega arith
 
-loop_again : tie.Need-loop-preserved invariant_loop decreases_loop
+loop_again : tie.Need-loop-arity-preserved invariant_loop decreases_loop
 loop_again c =
-    let lexed = c.before.before in
+    let lexed = c.before in
     let head = lexed.before.before in
-    let text = head.before.before.args.text.now in
-    let at = head.loop.at in
-    let more = one_more_lem text at lexed.next.result lexed.next.ensures _ c.enum_told.given.1 in
-    let so_far = head.loop.invariant.so_far in
+    let text = head.args.text.now in
+    let at = head.loop-arity.at in
+    let more = one_more_lem text at lexed.next-token.result lexed.next-token.ensures _ c.in-Symbol.is in
+    let so_far = head.loop-arity.invariant.so_far in
     record {
       few = omega arith;
-      inside = lexed.next.ensures.inside;
+      inside = lexed.next-token.ensures.inside;
       so_far = omega arith;
-      same_end = head.loop.invariant.same_end ∙ after_one text at lexed.next.result lexed.next.ensures _ c.enum_told.given.1;
+      same_end = head.loop-arity.invariant.same_end ∙ after_one text at lexed.next-token.result lexed.next-token.ensures _ c.in-Symbol.is;
     }
 
 skip-requires-2 : tie.Need-skip-requires-2 invariant_loop decreases_loop
-skip-requires-2 c κs = c.before.loop.invariant.inside
+skip-requires-2 c κs = c.loop-arity.invariant.inside
 
-returns_2 : tie.Need-returns-2 invariant_loop decreases_loop
+returns_2 : tie.Need-returns invariant_loop decreases_loop
 returns_2 c =
     let head = c.before.before in
-    let text = head.before.before.args.text.now in
-    let so_far = head.loop.invariant.so_far in
-    counted_to text head.before.before.args.from head.loop.at head.loop.arity _ head.loop.invariant (λ h. omega arith) refl c.skip2.ensures
+    let text = head.args.text.now in
+    let so_far = head.loop-arity.invariant.so_far in
+    counted_to text head.args.from head.loop-arity.at head.loop-arity.arity _ head.loop-arity.invariant (λ h. omega arith) refl c.skip-2.ensures
 
 pub arguments_spec : {M : Type 1} → statement M
 arguments_spec =
@@ -72,7 +69,7 @@ arguments_spec =
     decreases_loop
     loop_holds
     next_requires
-    enum_told
+    (λ c. search rules)
     skip-requires
     returns
     add-arity

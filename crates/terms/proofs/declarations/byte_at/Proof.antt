@@ -8,49 +8,34 @@ use borrow.Author.Rules.{rules}
 use Rattle.terms.proofs.declarations.byte_at.Statement.{statement}
 use Rattle.terms.proofs.declarations.byte_at.Tie as tie
 
-skip-requires : tie.Need-skip-requires
-skip-requires c κs = search rules
-
-skip-requires-2 : tie.Need-skip-requires-2
-skip-requires-2 c κs = search rules
-
-arguments-requires : tie.Need-arguments-requires
-arguments-requires c κs = search rules
-
-gives-sort-requires : tie.Need-gives-sort-requires
-gives-sort-requires c κs = search rules
-
-returns : tie.Need-returns
+returns : tie.Need-returns-then-gives_sort
 returns c =
     let given = c.before in
     let counted = given.before in
     let s = counted.before.before.before.before in
     let text = s.args.text.now in
     let sn = name_of text s.args.sort in
-    byte_by text sn s.args.at _ _ counted.arguments.result counted.before.before.skip.ensures counted.before.skip2.ensures counted.arguments.ensures term
-    (subst (ResultIs sn (plain_at text counted.arguments.result.next)) c.if1.true given.gives-sort.ensures)
+    byte_by text sn s.args.at _ _ counted.arguments-counted.result counted.skip-bracket.ensures counted.skip-inner.ensures counted.arguments-counted.ensures term
+    (subst (ResultIs sn (plain_at text counted.arguments-counted.result.next)) c.if-gives_sort.true given.gives_sort.ensures)
 
-add-result : tie.Need-overflow-add-result
-add-result c = search rules
-
-returns_2 : tie.Need-returns-2
+returns_2 : tie.Need-returns
 returns_2 c =
     let given = c.before.before in
     let counted = given.before in
     let s = counted.before.before.before.before in
     let text = s.args.text.now in
     let sn = name_of text s.args.sort in
-    byte_by text sn s.args.at _ _ counted.arguments.result counted.before.before.skip.ensures counted.before.skip2.ensures counted.arguments.ensures formula
-    (subst (ResultIs sn (plain_at text counted.arguments.result.next)) c.before.if1.false given.gives-sort.ensures)
+    byte_by text sn s.args.at _ _ counted.arguments-counted.result counted.skip-bracket.ensures counted.skip-inner.ensures counted.arguments-counted.ensures formula
+    (subst (ResultIs sn (plain_at text counted.arguments-counted.result.next)) c.if-gives_sort.false given.gives_sort.ensures)
 
 pub byte_at_spec : {M : Type 1} → statement M
 byte_at_spec =
     tie.close
     (tie.spec
-    skip-requires
-    skip-requires-2
-    arguments-requires
-    gives-sort-requires
+    (λ c κs. search rules)
+    (λ c κs. search rules)
+    (λ c κs. search rules)
+    (λ c κs. search rules)
     returns
-    add-result
+    (λ c. search rules)
     returns_2)

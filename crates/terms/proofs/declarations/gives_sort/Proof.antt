@@ -8,47 +8,29 @@ use borrow.Author.Rules.{rules}
 use Rattle.terms.proofs.declarations.gives_sort.Statement.{statement}
 use Rattle.terms.proofs.declarations.gives_sort.Tie as tie
 
-sub-exact : tie.Need-overflow-sub-exact
-sub-exact c = search rules
-
-part-exact-start : tie.Need-slice-bounds-exact-start
-part-exact-start c = search rules
-
-part-exact-end : tie.Need-slice-bounds-exact-end
-part-exact-end c = search rules
-
-exact-requires : tie.Need-exact-requires
-exact-requires c κs = search rules
-
-enum_told : tie.Need-enum-told
-enum_told c = search rules
-
-enum_told_2 : tie.Need-enum-told-2
-enum_told_2 c = search rules
-
-returns : tie.Need-returns
+returns : tie.Need-returns-in-At
 returns c =
-    let s = c.before.before.before.before.before in
+    let s = c.before.before.before.before in
     let text = s.args.text.now in
     let sn = name_of text s.args.sort in
-    result_sort text s.args.at sn _ (subst (Exactly text s.args.at (symbol sn)) c.enum_told.given.1 c.before.before.exact.ensures.0)
+    result_sort text s.args.at sn _ (subst (Exactly text s.args.at (symbol sn)) c.in-At.is c.exact-step.ensures.0)
 
-returns_2 : tie.Need-returns-2
+returns_2 : tie.Need-returns-in-Wrong
 returns_2 c =
-    let s = c.before.before.before.before.before in
+    let s = c.before.before.before.before in
     let text = s.args.text.now in
     let sn = name_of text s.args.sort in
-    result_other text s.args.at sn _ (subst (Exactly text s.args.at (symbol sn)) c.enum-told2.given.1 c.before.before.exact.ensures.0)
+    result_other text s.args.at sn _ (subst (Exactly text s.args.at (symbol sn)) c.in-Wrong.is c.exact-step.ensures.0)
 
 pub gives_sort_spec : {M : Type 1} → statement M
 gives_sort_spec =
     tie.close
     (tie.spec
-    sub-exact
-    part-exact-start
-    part-exact-end
-    exact-requires
-    enum_told
-    enum_told_2
+    (λ c. search rules)
+    (λ c. search rules)
+    (λ c. search rules)
+    (λ c κs. search rules)
+    (λ c. search rules)
+    (λ c. search rules)
     returns
     returns_2)

@@ -12,82 +12,79 @@ use Rattle.terms.proofs.SymbolLaws.{Scanning, scan_start, scan_counted, scan_end
 use Rattle.terms.proofs.declared.find_in_text.Statement.{statement}
 use Rattle.terms.proofs.declared.find_in_text.Tie as tie
 
-abbrev invariant_loop : tie.invariant-loop
+abbrev invariant_loop : tie.invariant-loop-number
 invariant_loop text name count sort at₀ number₀ at number = Scanning text (name_of text sort) count (name_of text name) at number
 
-abbrev decreases_loop : tie.decreases-loop
+abbrev decreases_loop : tie.decreases-loop-number
 decreases_loop text name count sort at₀ number₀ at number = length text - at
 
 -- a token is there
-module _ (c : tie.At-match-keys2 invariant_loop decreases_loop) where
-  abbrev head : tie.At-loop invariant_loop decreases_loop
+module _ (c : tie.In_default invariant_loop decreases_loop) where
+  abbrev head : tie.At-loop-number invariant_loop decreases_loop
   head = c.before.before.before
 
-  onward : (head.loop.at < c.before.next.result.next) × (c.before.next.result.next ≤ length head.before.before.before.args.text.now)
+  onward : (head.loop-number.at < c.next-token.result.next) × (c.next-token.result.next ≤ length head.args.text.now)
   onward =
-      let t = c.before.next.result in (
-        goes_on head.before.before.before.args.text.now head.loop.at t t.lexeme c.before.next.ensures.fits
-            (some_token head.before.before.before.args.text.now t.lexeme c.match.keys2).1,
-        c.before.next.ensures.inside,
+      let t = c.next-token.result in (
+        goes_on head.args.text.now head.loop-number.at t t.lexeme c.next-token.ensures.fits
+            (some_token head.args.text.now t.lexeme c.in_default.in_default-own.keys2).1,
+        c.next-token.ensures.inside,
       )
 
-loop_holds : tie.Need-loop-init invariant_loop decreases_loop
+loop_holds : tie.Need-loop-number-init invariant_loop decreases_loop
 loop_holds c = scan_start _ _ _ _
 
-next_requires : tie.Need-next-requires invariant_loop decreases_loop
-next_requires c κs = c.before.loop.invariant.inside
+next_requires : tie.Need-next-token-requires invariant_loop decreases_loop
+next_requires c κs = c.loop-number.invariant.inside
 
-enum_told : tie.Need-enum-told invariant_loop decreases_loop
-enum_told c = search rules
-
-returns : tie.Need-returns invariant_loop decreases_loop
+returns : tie.Need-returns-in-End invariant_loop decreases_loop
 returns c =
-    let lexed = c.before.before in
+    let lexed = c.before in
     let head = lexed.before.before in
-    let text = head.before.before.before.args.text.now in
-    scan_ends _ _ _ _ _ _ head.loop.invariant lexed.next.result lexed.next.ensures (ap (lexeme_read text) c.enum_told.given.1)
+    let text = head.args.text.now in
+    scan_ends _ _ _ _ _ _ head.loop-number.invariant lexed.next-token.result lexed.next-token.ensures (ap (lexeme_read text) c.in-End.is)
 
-is-declaring-requires : tie.Need-is-declaring-requires invariant_loop decreases_loop
-is-declaring-requires c κs = let head = c.before.before.before in name_inside head.before.before.before.args.text.now head.loop.at c.before.next.result c.before.next.ensures
+is-declaring-requires : tie.Need-is_declaring-requires invariant_loop decreases_loop
+is-declaring-requires c κs = let head = c.before.before.before in name_inside head.args.text.now head.loop-number.at c.next-token.result c.next-token.ensures
 
-loop_less : tie.Need-loop-smaller invariant_loop decreases_loop
+loop_less : tie.Need-loop-number-smaller-then-not-is_declaring invariant_loop decreases_loop
 loop_less c = omega (arith, onward c.before.before)
 
-loop_again : tie.Need-loop-preserved invariant_loop decreases_loop
+loop_again : tie.Need-loop-number-preserved-then-not-is_declaring invariant_loop decreases_loop
 loop_again c =
     let some = c.before.before in
-    scan_on _ _ _ _ _ _ (head some).loop.invariant some.before.next.result some.before.next.ensures some.match.keys2 (sym c.before.is-declaring.ensures ∙ not-true _ c.if1.true)
+    scan_on _ _ _ _ _ _ (head some).loop-number.invariant some.next-token.result some.next-token.ensures some.in_default.in_default-own.keys2 (sym c.is_declaring.ensures ∙ c.if-not-is_declaring.true)
 
 declares-requires : tie.Need-declares-requires invariant_loop decreases_loop
-declares-requires c κs = (c.before.before.before.next.ensures.inside, (head c.before.before).before.before.before.pre.1)
+declares-requires c κs = (c.next-token.ensures.inside, (head c.before.before).requires.1)
 
-byte-at-requires : tie.Need-byte-at-requires invariant_loop decreases_loop
-byte-at-requires c κs = (c.before.before.before.before.before.next.ensures.inside, (head c.before.before.before.before).before.before.before.pre.0)
+byte-at-requires : tie.Need-byte_at-requires invariant_loop decreases_loop
+byte-at-requires c κs = (c.next-token.ensures.inside, (head c.before.before.before.before).requires.0)
 
-returns_2 : tie.Need-returns-2 invariant_loop decreases_loop
+returns_2 : tie.Need-returns-then-declares invariant_loop decreases_loop
 returns_2 c =
     let told = c.before.before in
     let else = told.before in
     let some = else.before.before in
-    scan_finds _ _ _ _ _ _ (head some).loop.invariant some.before.next.result some.before.next.ensures some.match.keys2
-    (sym else.before.is-declaring.ensures ∙ not-false _ else.if1.false) (omega arith) told.declares.ensures c.before.if2.true _ c.byte_at.ensures
+    scan_finds _ _ _ _ _ _ (head some).loop-number.invariant some.next-token.result some.next-token.ensures some.in_default.in_default-own.keys2
+    (sym else.is_declaring.ensures ∙ else.if-not-is_declaring.false) (omega arith) told.declares.ensures c.if-declares.true _ c.byte_at.ensures
 
-add-number : tie.Need-overflow-add-number invariant_loop decreases_loop
+add-number : tie.Need-overflow_add-number invariant_loop decreases_loop
 add-number c = omega arith
 
-loop-less-2 : tie.Need-loop-smaller-2 invariant_loop decreases_loop
+loop-less-2 : tie.Need-loop-number-smaller invariant_loop decreases_loop
 loop-less-2 c = omega (arith, onward c.before.before.before.before)
 
-loop-again-2 : tie.Need-loop-preserved-2 invariant_loop decreases_loop
+loop-again-2 : tie.Need-loop-number-preserved invariant_loop decreases_loop
 loop-again-2 c =
     let told = c.before in
     let else = told.before in
     let some = else.before.before in
-    scan_later _ _ _ _ _ _ (head some).loop.invariant some.before.next.result some.before.next.ensures some.match.keys2
-    (sym else.before.is-declaring.ensures ∙ not-false _ else.if1.false) (omega arith) told.declares.ensures c.if2.false
+    scan_later _ _ _ _ _ _ (head some).loop-number.invariant some.next-token.result some.next-token.ensures some.in_default.in_default-own.keys2
+    (sym else.is_declaring.ensures ∙ else.if-not-is_declaring.false) (omega arith) told.declares.ensures c.if-declares.false
 
-returns_3 : tie.Need-returns-3 invariant_loop decreases_loop
-returns_3 c = scan_counted _ _ _ _ _ _ c.before.loop.invariant (omega arith)
+returns_3 : tie.Need-returns invariant_loop decreases_loop
+returns_3 c = scan_counted _ _ _ _ _ _ c.loop-number.invariant (omega arith)
 
 pub find_in_text_spec : {M : Type 1} → statement M
 find_in_text_spec =
@@ -97,7 +94,7 @@ find_in_text_spec =
     decreases_loop
     loop_holds
     next_requires
-    enum_told
+    (λ c. search rules)
     returns
     is-declaring-requires
     loop_less

@@ -5,22 +5,17 @@ use borrow.Author.Rules.{rules}
 use Rattle.terms.proofs.declared.solvers_own.Statement.{statement}
 use Rattle.terms.proofs.declared.solvers_own.Tie as tie
 
-returns : tie.Need-returns
-returns c = sym (empty_free c.before.before.args.name.now c.if1.true)
+returns : tie.Need-returns-then-name-eq0
+returns c = sym (empty_free c.args.name.now c.if-name-eq0.true)
 
-slice-aggregate-is-of : tie.Need-slice-aggregate-is-of
-slice-aggregate-is-of c = search rules
-
-shared-slice-read-is-of : tie.Need-shared-slice-read-is-of
-shared-slice-read-is-of c = search rules
-
-is-of-requires : tie.Need-is-of-requires
-is-of-requires c κs = search rules
-
-returns_2 : tie.Need-returns-2
-returns_2 c = let else = c.before.before.before in c.is-of.ensures ∙ sym (own_first else.before.before.args.name.now else.if1.false)
+returns_2 : tie.Need-returns
+returns_2 c = let else = c.before.before.before.before in c.is_of.ensures ∙ sym (own_first else.args.name.now else.if-name-eq0.false)
 
 pub solvers_own_spec : {M : Type 1} → statement M
 solvers_own_spec =
     tie.close
-    (tie.spec returns slice-aggregate-is-of shared-slice-read-is-of is-of-requires returns_2)
+    (tie.spec
+    returns
+    (λ c. search rules)
+    (λ c κs. search rules)
+    returns_2)

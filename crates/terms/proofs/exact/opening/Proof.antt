@@ -6,21 +6,21 @@ use borrow.Author.Rules.{rules}
 use Rattle.terms.proofs.exact.opening.Statement.{statement}
 use Rattle.terms.proofs.exact.opening.Tie as tie
 
-next_requires : tie.Need-next-requires
-next_requires c κs = search rules
-
-enum_told : tie.Need-enum-told
-enum_told c = search rules
-
-returns : tie.Need-returns
+returns : tie.Need-returns-in-Opening
 returns c =
-    let s = c.before.before.before.before in
-    (c.before.before.next.result, c.before.before.next.ensures, ap (lexeme_read s.args.text.now) c.enum_told.given.1, refl)
+    let s = c.before.before.before in
+    (c.next-token.result, c.next-token.ensures, ap (lexeme_read s.args.text.now) c.in-Opening.is, refl)
 
-returns_2 : tie.Need-returns-2
+returns_2 : tie.Need-returns
 returns_2 c =
     let s = c.before.before.before in
-    (c.before.next.result, c.before.next.ensures, no_opening s.args.text.now c.before.next.result.lexeme c.match.keys2, refl)
+    (c.next-token.result, c.next-token.ensures, no_opening s.args.text.now c.next-token.result.lexeme c.in_default.in_default-own.keys2, refl)
 
-pub opening-spec : {M : Type 1} → statement M
-opening-spec = tie.close (tie.spec next_requires enum_told returns returns_2)
+pub opening_spec : {M : Type 1} → statement M
+opening_spec =
+    tie.close
+    (tie.spec
+    (λ c κs. search rules)
+    (λ c. search rules)
+    returns
+    returns_2)

@@ -15,75 +15,60 @@ use borrow.Author.Rules.{rules}
 use Rattle.terms.proofs.exact.word.Statement.{statement}
 use Rattle.terms.proofs.exact.word.Tie as tie
 
-next_requires : tie.Need-next-requires
-next_requires c κs = search rules
-
-enum-known-lexeme : tie.Need-enum-known-lexeme
-enum-known-lexeme c = search rules
-
 -- the name that is found
-module _ (c : tie.After-known-told) where
+module _ (c : tie.In-Word) where
   abbrev start : tie.Start
-  start = c.before.before.before.before.before.before
+  start = c.before.before.before.before
 
   abbrev found : Name
-  found = c.before.lexeme.given.0.0
+  found = c.in-Word.found
 
-  is_named : c.before.before.before.next.result.lexeme ≡ Lexeme.Word found
-  is_named = c.before.lexeme.given.1
+  is_named : c.next-token.result.lexeme ≡ Lexeme.Word found
+  is_named = c.in-Word.is
 
   inside : NameWithin start.args.text.now found
-  inside = (subst (LexemeWithin start.args.text.now start.args.at c.before.before.before.next.result) is_named c.before.before.before.next.ensures.fits).1
+  inside = (subst (LexemeWithin start.args.text.now start.args.at c.next-token.result) is_named c.next-token.ensures.fits).1
 
-sub_same : tie.Need-overflow-sub-same
+sub_same : tie.Need-slice_bounds-same-count
 sub_same c = (inside c).0
 
-part-same-start : tie.Need-slice-bounds-same-start
-part-same-start c = omega (arith, (inside c).0, (inside c).1)
-
-part-same-end : tie.Need-slice-bounds-same-end
-part-same-end c = omega (arith, (inside c).1)
-
-same-requires : tie.Need-same-requires
-same-requires c κs = search rules
-
-returns : tie.Need-returns
+returns : tie.Need-returns-then-same
 returns c =
     let known = c.before.before.before in
     let text = (start known).args.text.now in
-    let lexed = known.before.before.before.next in (
+    let lexed = known.next-token in (
       lexed.result,
       lexed.ensures,
-      ap (lexeme_read text) (is_named known) ∙ ap (λ (n : List ℕ). some (word n)) (sym (same_bytes_lem (start known).args.name.now (name_of text (found known)) (sym c.before.same.ensures ∙ c.if1.true))),
+      ap (lexeme_read text) (is_named known) ∙ ap (λ (n : List ℕ). some (word n)) (sym (same_bytes_lem (start known).args.name.now (name_of text (found known)) (sym c.same.ensures ∙ c.if-same.true))),
       refl,
     )
 
-returns_2 : tie.Need-returns-2
+returns_2 : tie.Need-returns-in-Word
 returns_2 c =
     let known = c.before.before.before in
     let text = (start known).args.text.now in
-    let lexed = known.before.before.before.next in (
+    let lexed = known.next-token in (
       lexed.result,
       lexed.ensures,
-      ap (λ (l : Lexeme). is_token (word (start known).args.name.now) (lexeme_read text l)) (is_named known) ∙ sym c.before.same.ensures ∙ c.if1.false,
+      ap (λ (l : Lexeme). is_token (word (start known).args.name.now) (lexeme_read text l)) (is_named known) ∙ sym c.same.ensures ∙ c.if-same.false,
       refl,
     )
 
-returns_3 : tie.Need-returns-3
+returns_3 : tie.Need-returns
 returns_3 c =
     let s = c.before.before.before.before in
-    (c.before.next.result, c.before.next.ensures, no_word s.args.text.now c.before.next.result.lexeme s.args.name.now c.match.keys2, refl)
+    (c.next-token.result, c.next-token.ensures, no_word s.args.text.now c.next-token.result.lexeme s.args.name.now c.in_default.in_default-own.keys2, refl)
 
 pub word_spec : {M : Type 1} → statement M
 word_spec =
     tie.close
     (tie.spec
-    next_requires
-    enum-known-lexeme
+    (λ c κs. search rules)
+    (λ c. search rules)
     sub_same
-    part-same-start
-    part-same-end
-    same-requires
+    (λ c. search rules)
+    (λ c. search rules)
+    (λ c κs. search rules)
     returns
     returns_2
     returns_3)

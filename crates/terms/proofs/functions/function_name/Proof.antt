@@ -25,131 +25,112 @@ use Rattle.terms.proofs.functions.function_name.Statement.{statement}
 use Rattle.terms.proofs.functions.function_name.Tie as tie
 
 -- the name that is found
-module _ (c : tie.After-known-told) where
+module _ (c : tie.In-Symbol) where
   abbrev begin : tie.Start
-  begin = c.before.before.before.before.before.before
+  begin = c.before.before.before.before
 
   abbrev text : List ℕ
   text = begin.args.text.now
 
   abbrev found : Name
-  found = c.before.lexeme.given.0.0
+  found = c.in-Symbol.name
 
-  is_symbol : c.before.before.before.next.result.lexeme ≡ Lexeme.Symbol found
-  is_symbol = c.before.lexeme.given.1
+  is_symbol : c.next-token.result.lexeme ≡ Lexeme.Symbol found
+  is_symbol = c.in-Symbol.is
 
   inside : NameWithin text found
   inside =
       subst (LexemeFits text) is_symbol
-      (lexeme_fits text begin.args.at c.before.before.before.next.result c.before.before.before.next.result.lexeme c.before.before.before.next.ensures.fits)
+      (lexeme_fits text begin.args.at c.next-token.result c.next-token.result.lexeme c.next-token.ensures.fits)
 
-  reads : lexeme_read text c.before.before.before.next.result.lexeme ≡ some (symbol (name_of text found))
+  reads : lexeme_read text c.next-token.result.lexeme ≡ some (symbol (name_of text found))
   reads = ap (lexeme_read text) is_symbol
 
 -- the name is new
-module _ (c : tie.Else1) (sn : List ℕ) (cs : List Command)
+module _ (c : tie.Else-not-free) (sn : List ℕ) (cs : List Command)
     (symbols : Symbols (text c.before.before) sn cs (begin c.before.before).args.shelf.now (begin c.before.before).args.declared) where
   is_new_lem : new_function (symbols_in cs) (name_of (text c.before.before) (found c.before.before)) ≡ true
-  is_new_lem = sym (c.before.free.ensures sn cs symbols) ∙ not-false _ c.if1.false
+  is_new_lem = sym (c.free.ensures sn cs symbols) ∙ c.if-not-free.false
 
   named : Reached (text c.before.before) (in_declaring sn cs) (begin c.before.before).args.at
-      → Reached (text c.before.before) (name_read sn cs (name_of (text c.before.before) (found c.before.before))) c.before.before.before.before.before.next.result.next
+      → Reached (text c.before.before) (name_read sn cs (name_of (text c.before.before) (found c.before.before))) c.next-token.result.next
   named r =
       let known = c.before.before in
-      let lexed = known.before.before.before.next in
+      let lexed = known.next-token in
       function_named (text known) sn cs (begin known).args.at r lexed.result lexed.ensures _ (reads known) is_new_lem
 
 -- the bracket is passed
-further : (c : tie.After-exact) {behind : ℕ} → c.exact.result ≡ Step.At behind → c.before.before.before.before.before.before.before.next.result.next ≤ behind
-further c e = exactly_later (text c.before.before.before.before) opening (subst (Exactly (text c.before.before.before.before) _ opening) e c.exact.ensures.0)
+further : (c : tie.After-exact) {behind : ℕ} → c.exact.result ≡ Step.At behind → c.next-token.result.next ≤ behind
+further c e = exactly_later (text c.before.before.before.before.before) opening (subst (Exactly (text c.before.before.before.before.before) _ opening) e c.exact.ensures.0)
 
 -- and so is its bracket, or it is refused
-opened : (c : tie.After-exact) (sn : List ℕ) (cs : List Command) → let known = c.before.before.before.before in
+opened : (c : tie.After-exact) (sn : List ℕ) (cs : List Command) → let known = c.before.before.before.before.before in
     Symbols (text known) sn cs (begin known).args.shelf.now (begin known).args.declared → Reached (text known) (in_declaring sn cs) (begin known).args.at
     → ReachedBy (text known) (in_taking sn cs (name_of (text known) (found known)) 0) c.exact.result
 opened c sn cs symbols r =
-    let else = c.before.before in
+    let else = c.before.before.before in
     let known = else.before.before in
     exactly_on (text known) (name_read sn cs (name_of (text known) (found known))) opening (taking (name_of (text known) (found known)) 0) (Step.At _) c.exact.result
     (omega arith) c.exact.ensures.0 (named else sn cs symbols r)
 
-next_requires : tie.Need-next-requires
-next_requires c κs = search rules
-
-enum-known-lexeme : tie.Need-enum-known-lexeme
-enum-known-lexeme c = search rules
-
-returns : tie.Need-returns
+returns : tie.Need-returns-in_default
 returns c =
     let s = c.before.before.before.before in
-    let lexed = c.before.next in
+    let lexed = c.next-token in
     record {
       sound = tt;
       says = λ sn cs symbols r.
-          no_function s.args.text.now sn cs s.args.at r lexed.result lexed.ensures (no_symbol_there s.args.text.now lexed.result.lexeme c.match.keys2);
+          no_function s.args.text.now sn cs s.args.at r lexed.result lexed.ensures (no_symbol_there s.args.text.now lexed.result.lexeme c.in_default.in_default-own.keys2);
     }
 
 free-requires : tie.Need-free-requires
 free-requires c κs = ((begin c).requires.0, inside c)
 
-returns_2 : tie.Need-returns-2
+returns_2 : tie.Need-returns-then-not-free
 returns_2 c =
     let known = c.before.before in
-    let lexed = known.before.before.before.next in
+    let lexed = known.next-token in
     record {
       sound = tt;
       says = λ sn cs symbols r.
-          function_taken (text known) sn cs (begin known).args.at r lexed.result lexed.ensures _ (reads known) (sym (c.before.free.ensures sn cs symbols) ∙ not-true _ c.if1.true);
+          function_taken (text known) sn cs (begin known).args.at r lexed.result lexed.ensures _ (reads known) (sym (c.free.ensures sn cs symbols) ∙ c.if-not-free.true);
     }
 
-slice-aggregate-exact : tie.Need-slice-aggregate-exact
-slice-aggregate-exact c = search rules
-
-exact-requires : tie.Need-exact-requires
-exact-requires c κs = search rules
-
-enum-known-behind : tie.Need-enum-known-behind
-enum-known-behind c = search rules
-
-enum-known-place : tie.Need-enum-known-place
-enum-known-place c = search rules
-
-returns_3 : tie.Need-returns-3
+returns_3 : tie.Need-returns-in-At
 returns_3 c =
-    let exacts = c.before.before.before in
-    let else = exacts.before.before in
+    let exacts = c.before in
+    let else = exacts.before.before.before in
     let known = else.before.before in
     record {
       sound = (
         inside known,
-        subst (StepWithin (text known)) c.before.behind.given.1 exacts.exact.ensures.1,
-        omega (arith, known.before.before.before.next.ensures.later, further exacts c.before.behind.given.1),
+        subst (StepWithin (text known)) c.in-At.is exacts.exact.ensures.1,
+        omega (arith, known.next-token.ensures.later, further exacts c.in-At.is),
       );
       says = λ sn cs symbols r.
-          (subst (ReachedBy (text known) (in_taking sn cs (name_of (text known) (found known)) 0)) c.before.behind.given.1 (opened exacts sn cs symbols r), is_new_lem else sn cs symbols);
+          (subst (ReachedBy (text known) (in_taking sn cs (name_of (text known) (found known)) 0)) c.in-At.is (opened exacts sn cs symbols r), is_new_lem else sn cs symbols);
     }
 
-returns_4 : tie.Need-returns-4
+returns_4 : tie.Need-returns-in-Wrong
 returns_4 c =
-    let exacts = c.before.before.before in
-    let known = exacts.before.before.before.before in
+    let exacts = c.before in
+    let known = exacts.before.before.before.before.before in
     record {
       sound = tt;
-      says = λ sn cs symbols r. subst (ReachedBy (text known) (in_taking sn cs (name_of (text known) (found known)) 0)) c.before.place.given.1 (opened exacts sn cs symbols r);
+      says = λ sn cs symbols r. subst (ReachedBy (text known) (in_taking sn cs (name_of (text known) (found known)) 0)) c.in-Wrong.is (opened exacts sn cs symbols r);
     }
 
 pub function_name_spec : {M : Type 1} → statement M
 function_name_spec =
     tie.close
     (tie.spec
-    next_requires
-    enum-known-lexeme
+    (λ c κs. search rules)
+    (λ c. search rules)
     returns
     free-requires
     returns_2
-    slice-aggregate-exact
-    exact-requires
-    enum-known-behind
-    enum-known-place
+    (λ c κs. search rules)
+    (λ c. search rules)
+    (λ c. search rules)
     returns_3
     returns_4)

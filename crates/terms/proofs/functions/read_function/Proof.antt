@@ -18,118 +18,97 @@ use Rattle.terms.proofs.functions.read_function.Statement.{statement}
 use Rattle.terms.proofs.functions.read_function.Tie as tie
 
 -- the name
-module _ (c : tie.After-known-told2) where
+module _ (c : tie.In-Name) where
   abbrev begin : tie.Start
-  begin = c.before.before.before.before.before.before.before
+  begin = c.before.before.before.before.before
 
   abbrev text : List ℕ
   text = begin.args.text.now
 
   abbrev name : Name
-  name = c.before.name.given.0.0
+  name = c.in-Name.name
 
-  name_sound : NameWithin text name × (c.before.name.given.0.1.0 ≤ length text) × (begin.args.at ≤ c.before.name.given.0.1.0)
-  name_sound = subst (NameSound text begin.args.at) c.before.name.given.1 c.before.before.before.function-name.ensures.sound
+  name_sound : NameWithin text name × (c.in-Name.opened ≤ length text) × (begin.args.at ≤ c.in-Name.opened)
+  name_sound = subst (NameSound text begin.args.at) c.in-Name.is c.function_name.ensures.sound
 
   module _ (sn : List ℕ) (cs : List Command) (symbols : Symbols text sn cs begin.args.shelf.now begin.args.declared)
       (r : Reached text (in_declaring sn cs) begin.args.at) where
-    named : Reached text (in_taking sn cs (name_of text name) 0) c.before.name.given.0.1.0 × (new_function (symbols_in cs) (name_of text name) ≡ true)
-    named = subst (NameIs text sn cs) c.before.name.given.1 (c.before.before.before.function-name.ensures.says sn cs symbols r)
+    named : Reached text (in_taking sn cs (name_of text name) 0) c.in-Name.opened × (new_function (symbols_in cs) (name_of text name) ≡ true)
+    named = subst (NameIs text sn cs) c.in-Name.is (c.function_name.ensures.says sn cs symbols r)
 
     -- by the sort's own name
-    taking : Reached text (in_taking (name_of text begin.args.declared.sort) cs (name_of text name) 0) c.before.name.given.0.1.0
-    taking = subst (λ (z : List ℕ). Reached text (in_taking z cs (name_of text name) 0) c.before.name.given.0.1.0) symbols.sort_is_lem named.0
+    taking : Reached text (in_taking (name_of text begin.args.declared.sort) cs (name_of text name) 0) c.in-Name.opened
+    taking = subst (λ (z : List ℕ). Reached text (in_taking z cs (name_of text name) 0) c.in-Name.opened) symbols.sort_is_lem named.0
 
 -- the arguments
-module _ (c : tie.After-known-told4) where
-  abbrev known : tie.After-known-told2
-  known = c.before.before.before.before
+module _ (c : tie.In-Counted) where
+  abbrev known : tie.In-Name
+  known = c.before.before
 
   abbrev arity : ℕ
-  arity = c.before.arity.given.0.0
+  arity = c.in-Counted.arity
 
-  arity_sound : (arity ≤ 3) × (c.before.arity.given.0.1.0 ≤ length (text known)) × (known.before.name.given.0.1.0 ≤ c.before.arity.given.0.1.0)
-  arity_sound = subst (AritySound (text known) known.before.name.given.0.1.0) c.before.arity.given.1 c.before.before.before.read-arity.ensures.sound
+  arity_sound : (arity ≤ 3) × (c.in-Counted.taken ≤ length (text known)) × (known.in-Name.opened ≤ c.in-Counted.taken)
+  arity_sound = subst (AritySound (text known) known.in-Name.opened) c.in-Counted.is c.read_arity.ensures.sound
 
   giving : (sn : List ℕ) (cs : List Command) → Symbols (text known) sn cs (begin known).args.shelf.now (begin known).args.declared
       → Reached (text known) (in_declaring sn cs) (begin known).args.at
-      → Reached (text known) (in_giving (name_of (text known) (begin known).args.declared.sort) cs (name_of (text known) (name known)) arity) c.before.arity.given.0.1.0
+      → Reached (text known) (in_giving (name_of (text known) (begin known).args.declared.sort) cs (name_of (text known) (name known)) arity) c.in-Counted.taken
   giving sn cs symbols r =
-      subst (ArityIs (text known) _ cs (name_of (text known) (name known))) c.before.arity.given.1 (c.before.before.before.read-arity.ensures.says cs _ (taking known sn cs symbols r))
+      subst (ArityIs (text known) _ cs (name_of (text known) (name known))) c.in-Counted.is (c.read_arity.ensures.says cs _ (taking known sn cs symbols r))
 
-function-name-requires : tie.Need-function-name-requires
-function-name-requires c κs = search rules
-
-enum-known-place : tie.Need-enum-known-place
-enum-known-place c = search rules
-
-enum-known-name : tie.Need-enum-known-name
-enum-known-name c = search rules
-
-read-arity-requires : tie.Need-read-arity-requires
+read-arity-requires : tie.Need-read_arity-requires
 read-arity-requires c κs = ((name_sound c).1, (begin c).requires.0.sort_inside)
 
-enum-known-place-2 : tie.Need-enum-known-place-2
-enum-known-place-2 c = search rules
+rank-of-requires : tie.Need-rank_of-requires
+rank-of-requires c κs = ((arity_sound c).1, (begin (known c)).requires.0.sort_inside, (arity_sound c).0)
 
-enum-known-arity : tie.Need-enum-known-arity
-enum-known-arity c = search rules
-
-rank-of-requires : tie.Need-rank-of-requires
-rank-of-requires c κs = ((arity_sound c).1, (begin (known c)).pre.0.sort_inside, (arity_sound c).0)
-
-enum-known-place-3 : tie.Need-enum-known-place-3
-enum-known-place-3 c = search rules
-
-enum-known-byte : tie.Need-enum-known-byte
-enum-known-byte c = search rules
-
-returns : tie.Need-returns
+returns : tie.Need-returns-in-Wrong
 returns c =
-    let s = c.before.before.before.before.before.before.before in
+    let s = c.before.before.before.before.before in
     record {
       sound = tt;
-      says = λ sn cs symbols r. subst (NameIs s.args.text.now sn cs) c.before.place.given.1 (c.before.before.before.function-name.ensures.says sn cs symbols r);
+      says = λ sn cs symbols r. subst (NameIs s.args.text.now sn cs) c.in-Wrong.is (c.function_name.ensures.says sn cs symbols r);
     }
 
-returns_2 : tie.Need-returns-2
+returns_2 : tie.Need-returns-in-Wrong-read_arity
 returns_2 c =
-    let arity = c.before.before.before in
+    let arity = c.before in
     let known = arity.before in
     record {
       sound = tt;
       says = λ sn cs symbols r.
-          subst (ArityIs (text known) _ cs (name_of (text known) (name known))) c.before.place2.given.1 (arity.read-arity.ensures.says cs _ (taking known sn cs symbols r));
+          subst (ArityIs (text known) _ cs (name_of (text known) (name known))) c.in-Wrong-read_arity.is (arity.read_arity.ensures.says cs _ (taking known sn cs symbols r));
     }
 
-returns_3 : tie.Need-returns-3
+returns_3 : tie.Need-returns-in-Wrong-rank_of
 returns_3 c =
-    let ranked = c.before.before.before in
+    let ranked = c.before in
     let counted = ranked.before in
     record {
       sound = tt;
       says = λ sn cs symbols r.
-          subst (RankIs (text (known counted)) _ cs (name_of (text (known counted)) (name (known counted))) (arity counted)) c.before.place3.given.1 (ranked.rank-of.ensures.says cs _ (giving counted sn cs symbols r));
+          subst (RankIs (text (known counted)) _ cs (name_of (text (known counted)) (name (known counted))) (arity counted)) c.in-Wrong-rank_of.is (ranked.rank_of.ensures.says cs _ (giving counted sn cs symbols r));
     }
 
-returns_4 : tie.Need-returns-4
+returns_4 : tie.Need-returns-in-Rank
 returns_4 c =
-    let ranked = c.before.before.before in
+    let ranked = c.before in
     let counted = ranked.before in
     let first = known counted in
-    let e = c.before.byte.given.1 in
-    let sound = subst (RankSound (text first) counted.before.arity.given.0.1.0) e ranked.rank-of.ensures.sound in
+    let e = c.in-Rank.is in
+    let sound = subst (RankSound (text first) counted.in-Counted.taken) e ranked.rank_of.ensures.sound in
     record {
       sound = ((name_sound first).0, sound.0, sound.1, omega (arith, (name_sound first).2, (arity_sound counted).2, sound.2));
       says = λ sn cs symbols r.
-          let ranks = subst (RankIs (text first) _ cs (name_of (text first) (name first)) (arity counted)) e (ranked.rank-of.ensures.says cs _ (giving counted sn cs symbols r)) in
+          let ranks = subst (RankIs (text first) _ cs (name_of (text first) (name first)) (arity counted)) e (ranked.rank_of.ensures.says cs _ (giving counted sn cs symbols r)) in
           record {
             declared = symbol_of (name_of (text first) (name first)) (arity counted) ranks.0;
             name_is = refl;
             byte_is = ranks.1;
             new = (named first sn cs symbols r).1;
             short = (arity_sound counted).0;
-            reached = subst (λ (z : List ℕ). Reached (text first) (at_command z (snoc cs (declare (symbol_of (name_of (text first) (name first)) (arity counted) ranks.0)))) c.before.byte.given.0.1.0) (sym symbols.sort_is_lem) ranks.2;
+            reached = subst (λ (z : List ℕ). Reached (text first) (at_command z (snoc cs (declare (symbol_of (name_of (text first) (name first)) (arity counted) ranks.0)))) c.in-Rank.behind) (sym symbols.sort_is_lem) ranks.2;
           };
     }
 
@@ -137,15 +116,15 @@ pub read_function_spec : {M : Type 1} → statement M
 read_function_spec =
     tie.close
     (tie.spec
-    function-name-requires
-    enum-known-place
-    enum-known-name
+    (λ c κs. search rules)
+    (λ c. search rules)
+    (λ c. search rules)
     read-arity-requires
-    enum-known-place-2
-    enum-known-arity
+    (λ c. search rules)
+    (λ c. search rules)
     rank-of-requires
-    enum-known-place-3
-    enum-known-byte
+    (λ c. search rules)
+    (λ c. search rules)
     returns
     returns_2
     returns_3

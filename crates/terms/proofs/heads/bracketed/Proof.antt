@@ -8,61 +8,34 @@ use borrow.Author.Rules.{rules}
 use Rattle.terms.proofs.heads.bracketed.Statement.{statement}
 use Rattle.terms.proofs.heads.bracketed.Tie as tie
 
-sub-core : tie.Need-overflow-sub-core
-sub-core c = search rules
-
-part-core-start : tie.Need-slice-bounds-core-start
-part-core-start c = search rules
-
-part-core-end : tie.Need-slice-bounds-core-end
-part-core-end c = search rules
-
-core-requires : tie.Need-core-requires
-core-requires c κs = search rules
-
-enum-known-k : tie.Need-enum-known-k
-enum-known-k c = search rules
-
-bracketed-core-requires : tie.Need-bracketed-core-requires
-bracketed-core-requires c κs = search rules
-
-returns : tie.Need-returns
+returns : tie.Need-returns-in-At
 returns c =
-    let known = c.before.before in
+    let known = c in
     let core = known.before.before in
     let s = core.before.before.before.before in
     heads_bracketed_core s.args.text.now s.args.shelf.now s.args.declared (name_of s.args.text.now s.args.name) (sort_is s.args.formula) _ _
-    (sym core.core.ensures ∙ ap found_of known.k.given.1) c.bracketed-core.ensures
+    (sym core.core.ensures ∙ ap found_of known.in-At.is) c.bracketed_core.ensures
 
-enum_told : tie.Need-enum-told
-enum_told c = search rules
-
-find-requires : tie.Need-find-requires
-find-requires c κs = search rules
-
-bracketed-known-requires : tie.Need-bracketed-known-requires
-bracketed-known-requires c κs = search rules
-
-returns_2 : tie.Need-returns-2
+returns_2 : tie.Need-returns
 returns_2 c =
     let told = c.before.before in
-    let core = told.before.before in
+    let core = told.before in
     let s = core.before.before.before.before in
     heads_bracketed_known s.args.text.now s.args.shelf.now s.args.declared (name_of s.args.text.now s.args.name) (sort_is s.args.formula) _ _
-    (sym core.core.ensures ∙ ap found_of told.enum_told.given.1) c.before.find.ensures c.bracketed-known.ensures
+    (sym core.core.ensures ∙ ap found_of told.in_default.is) c.find-known.ensures c.bracketed_known.ensures
 
 pub bracketed_spec : {M : Type 1} → statement M
 bracketed_spec =
     tie.close
     (tie.spec
-    sub-core
-    part-core-start
-    part-core-end
-    core-requires
-    enum-known-k
-    bracketed-core-requires
+    (λ c. search rules)
+    (λ c. search rules)
+    (λ c. search rules)
+    (λ c κs. search rules)
+    (λ c. search rules)
+    (λ c κs. search rules)
     returns
-    enum_told
-    find-requires
-    bracketed-known-requires
+    (λ c. search rules)
+    (λ c κs. search rules)
+    (λ c κs. search rules)
     returns_2)

@@ -7,47 +7,47 @@ use Rattle.terms.proofs.heads.bracketed_core.Statement.{statement}
 use Rattle.terms.proofs.heads.bracketed_core.Tie as tie
 
 -- a formula is wanted
-module _ (c : tie.Else4) where
+module _ (c : tie.Else-not-formula) where
   abbrev formula : Bool
-  formula = c.before.before.args.formula
+  formula = c.args.formula
 
   wanted : formula ≡ true
-  wanted = not-false formula c.if4.false
+  wanted = c.if-not-formula.false
 
-returns : tie.Need-returns
-returns c = choice_formula _ _ _ c.if2.true c.before.if1.true
+returns : tie.Need-returns-then-formula
+returns c = choice_formula _ _ _ c.if-formula.true c.if-k-eq9.true
 
-returns_2 : tie.Need-returns-2
-returns_2 c = choice_term _ _ _ c.before.if2.false c.before.before.if1.true c.if3.true
+returns_2 : tie.Need-returns-then-inhabited
+returns_2 c = choice_term _ _ _ c.if-formula.false c.if-k-eq9.true c.if-inhabited.true
 
-returns_3 : tie.Need-returns-3
-returns_3 c = choice_none _ _ _ c.before.if2.false c.before.before.if1.true c.if3.false
+returns_3 : tie.Need-returns-then-k-eq9
+returns_3 c = choice_none _ _ _ c.if-formula.false c.if-k-eq9.true c.if-inhabited.false
 
-returns_4 : tie.Need-returns-4
-returns_4 c = bracketed_term c.before.before.args.formula _ _ (not-true _ c.if4.true) c.before.if1.false
+returns_4 : tie.Need-returns-then-not-formula
+returns_4 c = bracketed_term c.args.formula _ _ (c.if-not-formula.true) c.if-k-eq9.false
 
-returns_5 : tie.Need-returns-5
-returns_5 c = bracketed_not (formula c.before) _ _ (wanted c.before) c.if5.true
+returns_5 : tie.Need-returns-then-k-eq2
+returns_5 c = bracketed_not (formula c.before) _ _ (wanted c.before) c.if-k-eq2.true
 
-returns_6 : tie.Need-returns-6
-returns_6 c = bracketed_implies (formula c.before.before) _ _ (wanted c.before.before) c.if6.true
+returns_6 : tie.Need-returns-then-k-eq3
+returns_6 c = bracketed_implies (formula c.before.before) _ _ (wanted c.before.before) c.if-k-eq3.true
 
-returns-7 : tie.Need-returns-7
-returns-7 c = bracketed_and (formula c.before.before.before) _ _ (wanted c.before.before.before) c.if7.true
+returns-7 : tie.Need-returns-then-k-eq4
+returns-7 c = bracketed_and (formula c.before.before.before) _ _ (wanted c.before.before.before) c.if-k-eq4.true
 
-returns-8 : tie.Need-returns-8
-returns-8 c = bracketed_or (formula c.before.before.before.before) _ _ (wanted c.before.before.before.before) c.if8.true
+returns-8 : tie.Need-returns-then-k-eq5
+returns-8 c = bracketed_or (formula c.before.before.before.before) _ _ (wanted c.before.before.before.before) c.if-k-eq5.true
 
-returns-9 : tie.Need-returns-9
+returns-9 : tie.Need-returns-then-k-ne7
 returns-9 c =
     let else = c.before.before.before.before.before in
-    bracketed_other (formula else) _ _ (wanted else) c.before.before.before.before.if5.false c.before.before.before.if6.false c.before.before.if7.false c.before.if8.false c.if9.true else.before.if1.false
+    bracketed_other (formula else) _ _ (wanted else) c.if-k-eq2.false c.if-k-eq3.false c.if-k-eq4.false c.if-k-eq5.false c.if-k-ne7.true else.if-k-eq9.false
 
-returns-10 : tie.Need-returns-10
-returns-10 c = let else = c.before.before.before.before.before.before in bracketed_equals (formula else) _ _ (wanted else) c.before.if9.false c.if10.true
+returns-10 : tie.Need-returns-then-inhabited-2
+returns-10 c = let else = c.before.before.before.before.before.before in bracketed_equals (formula else) _ _ (wanted else) c.if-k-ne7.false c.if-inhabited-2.true
 
-returns-11 : tie.Need-returns-11
-returns-11 c = let else = c.before.before.before.before.before.before in no_equals (formula else) _ _ (wanted else) c.before.if9.false c.if10.false
+returns-11 : tie.Need-returns
+returns-11 c = let else = c.before.before.before.before.before.before in no_equals (formula else) _ _ (wanted else) c.if-k-ne7.false c.if-inhabited-2.false
 
 pub bracketed_core_spec : {M : Type 1} → statement M
 bracketed_core_spec =

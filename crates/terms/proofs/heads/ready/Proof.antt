@@ -8,14 +8,15 @@ use borrow.Author.Rules.{rules}
 use Rattle.terms.proofs.heads.ready.Statement.{statement}
 use Rattle.terms.proofs.heads.ready.Tie as tie
 
-least-requires : tie.Need-least-requires
-least-requires c κs = search rules
-
 returns : tie.Need-returns
 returns c =
-    let head = c.before.args.head in
-    let seen = c.before.args.seen in
-    subst (Readies head seen) (ap (λ (m : ℕ). leb m seen) (sym c.least.ensures)) (ready_by head seen)
+    let head = c.args.head in
+    let seen = c.args.seen in
+    subst (Readies head seen) (ap (λ (m : ℕ). leb m seen) (sym c.least-must.ensures)) (ready_by head seen)
 
 pub ready_spec : {M : Type 1} → statement M
-ready_spec = tie.close (tie.spec least-requires returns)
+ready_spec =
+    tie.close
+    (tie.spec
+    (λ c κs. search rules)
+    returns)

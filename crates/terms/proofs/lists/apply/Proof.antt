@@ -12,41 +12,26 @@ use borrow.Author.Rules.{rules}
 use Rattle.terms.proofs.lists.apply.Statement.{statement}
 use Rattle.terms.proofs.lists.apply.Tie as tie
 
-cast-symbol : tie.Need-overflow-cast-symbol
-cast-symbol c = search rules
-
-over-requires : tie.Need-over-requires
-over-requires c κs = search rules
-
-over-requires-2 : tie.Need-over-requires-2
-over-requires-2 c κs = search rules
-
-same_length : tie.Need-same-length
-same_length c = search rules
-
-returns : tie.Need-returns
+returns : tie.Need-returns-then-formula
 returns c =
     let then = c.before.before.before.before in
-    let a = then.before.before.args in
-    performs_as (ap (λ (f : Bool). ended (declared (sort_is f) (a.number % 256)) (row_read a.row [])) (sym then.if1.true)) c.before.before.over.ensures
+    let a = then.args in
+    performs_as (ap (λ (f : Bool). ended (declared (sort_is f) (a.number % 256)) (row_read a.row [])) (sym then.if-formula.true)) c.over.ensures
 
-same_length_2 : tie.Need-same-length-2
-same_length_2 c = search rules
-
-returns_2 : tie.Need-returns-2
+returns_2 : tie.Need-returns-else-formula
 returns_2 c =
     let else = c.before.before.before.before in
-    let a = else.before.before.args in
-    performs_as (ap (λ (f : Bool). ended (declared (sort_is f) (a.number % 256)) (row_read a.row [])) (sym else.if1.false)) c.before.before.over2.ensures
+    let a = else.args in
+    performs_as (ap (λ (f : Bool). ended (declared (sort_is f) (a.number % 256)) (row_read a.row [])) (sym else.if-formula.false)) c.over-else-formula.ensures
 
 pub apply_spec : {M : Type 1} → statement M
 apply_spec =
     tie.close
     (tie.spec
-    cast-symbol
-    over-requires
-    over-requires-2
-    same_length
+    (λ c. search rules)
+    (λ c κs. search rules)
+    (λ c κs. search rules)
+    (λ c. search rules)
     returns
-    same_length_2
+    (λ c. search rules)
     returns_2)

@@ -39,62 +39,59 @@ record Joining (pending nodes₀ : List ℕ) (asked₀ : Asked) (i₀ : ℕ) (no
   whole : (r : Asked) (after : List ℕ) → Performs (disjoining pending i asked.number) nodes asked.laying r after
       → Performs (disjoining pending i₀ asked₀.number) nodes₀ asked₀.laying r after
 
-abbrev invariant_loop : tie.invariant-loop
+abbrev invariant_loop : tie.invariant-loop-i
 invariant_loop pending nodes₀ asked₀ i₀ nodes asked i = Joining pending nodes₀ asked₀ i₀ nodes asked i
 
-abbrev decreases_loop : tie.decreases-loop
+abbrev decreases_loop : tie.decreases-loop-i
 decreases_loop pending nodes₀ asked₀ i₀ nodes asked i = i
 
-loop_holds : tie.Need-loop-init invariant_loop decreases_loop
-loop_holds c = record { long = refl; within = omega arith; few = c.before.before.requires.1.few; small = c.before.before.requires.2.last_small; whole = λ r after p. p }
+loop_holds : tie.Need-loop-i-init invariant_loop decreases_loop
+loop_holds c = record { long = refl; within = omega arith; few = c.requires.1.few; small = c.requires.2.last_small; whole = λ r after p. p }
 
-sub-i : tie.Need-overflow-sub-i invariant_loop decreases_loop
+sub-i : tie.Need-overflow_sub-i invariant_loop decreases_loop
 sub-i c = omega arith
 
-shared-slice-read-wide : tie.Need-shared-slice-read-wide invariant_loop decreases_loop
+shared-slice-read-wide : tie.Need-bounds-pending-i invariant_loop decreases_loop
 shared-slice-read-wide c =
     let head = c.before.before.before in
     let s = head.before.before.before in
-    omega (arith, head.loop.invariant.within, s.requires.2.waiting_small, s.requires.0)
+    omega (arith, head.loop-i.invariant.within, s.requires.2.waiting_small, s.requires.0)
 
-wide-requires : tie.Need-wide-requires invariant_loop decreases_loop
-wide-requires c κs = search rules
-
-pair-requires : tie.Need-pair-requires invariant_loop decreases_loop
+pair-requires : tie.Need-pair-asked-requires invariant_loop decreases_loop
 pair-requires c κs =
     let head = c.before.before.before.before.before in
     let s = head.before.before.before in
-    (record { long = head.loop.invariant.long ∙ s.requires.1.long; few = head.loop.invariant.few }, c.before.wide.ensures.1, head.loop.invariant.small)
+    (record { long = head.loop-i.invariant.long ∙ s.requires.1.long; few = head.loop-i.invariant.few }, c.wide.ensures.1, head.loop-i.invariant.small)
 
-loop_less : tie.Need-loop-smaller invariant_loop decreases_loop
+loop_less : tie.Need-loop-i-smaller invariant_loop decreases_loop
 loop_less c = omega arith
 
-loop_again : tie.Need-loop-preserved invariant_loop decreases_loop
+loop_again : tie.Need-loop-i-preserved invariant_loop decreases_loop
 loop_again c =
     let paired = c.before.before in
     let wide = paired.before.before in
     let head = wide.before.before.before.before in
-    let inv = head.loop.invariant in
+    let inv = head.loop-i.invariant in
     record {
-      long = c.before.nodes.given ∙ inv.long;
+      long = c.nodes-1.given ∙ inv.long;
       within = omega (arith, inv.within);
-      few = paired.pair.ensures.few;
-      small = paired.pair.ensures.small;
-      whole = λ r after p. inv.whole r after (disjoins_one _ head.loop.i head.loop.asked.number (omega arith)
-          (performs_as (ap (λ (m : ℕ). ask (plain 5 m head.loop.asked.number 0)) wide.wide.ensures.0) paired.pair.ensures) p);
+      few = paired.pair-asked.ensures.few;
+      small = paired.pair-asked.ensures.small;
+      whole = λ r after p. inv.whole r after (disjoins_one _ head.loop-i.i head.loop-i.asked.number (omega arith)
+          (performs_as (ap (λ (m : ℕ). ask (plain 5 m head.loop-i.asked.number 0)) wide.wide.ensures.0) paired.pair-asked.ensures) p);
     }
 
-same_length : tie.Need-same-length invariant_loop decreases_loop
-same_length c = c.before.loop.invariant.long
+same_length : tie.Need-shape_of-nodes invariant_loop decreases_loop
+same_length c = c.loop-i.invariant.long
 
 returns : tie.Need-returns invariant_loop decreases_loop
 returns c =
     let head = c.before in
-    let asked = head.loop.asked in
-    let none : 0 ≡ head.loop.i = omega arith in
-    head.loop.invariant.whole asked head.loop.nodes
-    (performs_as (ap (λ (m : ℕ). disjoining head.before.before.before.args.pending.now m asked.number) none)
-    (stands_already asked.number asked.laying head.loop.invariant.few head.loop.invariant.small))
+    let asked = head.loop-i.asked in
+    let none : 0 ≡ head.loop-i.i = omega arith in
+    head.loop-i.invariant.whole asked head.loop-i.nodes
+    (performs_as (ap (λ (m : ℕ). disjoining head.args.pending.now m asked.number) none)
+    (stands_already asked.number asked.laying head.loop-i.invariant.few head.loop-i.invariant.small))
 
 pub disjoin_spec : {M : Type 1} → statement M
 disjoin_spec =
@@ -105,7 +102,7 @@ disjoin_spec =
     loop_holds
     sub-i
     shared-slice-read-wide
-    wide-requires
+    (λ c κs. search rules)
     pair-requires
     loop_less
     loop_again

@@ -20,43 +20,38 @@ module _ (row : lists.Row) (k : ℕ) where
   equated_later (suc zero) h g = absurd (g refl)
   equated_later (suc (suc n)) h g = refl
 
-returns : tie.Need-returns
+returns : tie.Need-returns-then-row-eq0
 returns c =
     let s = c.before.before.before in
     let a = s.args in
-    performs_as (ap (λ m. equated m (row_read a.row []) a.number) (sym c.if1.true))
+    performs_as (ap (λ m. equated m (row_read a.row []) a.number) (sym c.if-row-eq0.true))
     (stands_already a.number a.laying s.requires.0.few s.requires.2)
 
-pair-requires : tie.Need-pair-requires
-pair-requires c κs = search rules
-
-same_length : tie.Need-same-length
-same_length c = search rules
-
-returns_2 : tie.Need-returns-2
+returns_2 : tie.Need-returns-then-row-eq1
 returns_2 c =
     let paired = c.before.before.before.before in
-    let a = paired.before.before.before.before.before.args in
-    performs_as (ap (λ m. equated m (row_read a.row []) a.number) (sym c.if2.true)) paired.pair.ensures
+    let a = paired.args in
+    performs_as (ap (λ m. equated m (row_read a.row []) a.number) (sym c.if-row-eq1.true)) paired.pair-equation.ensures
 
-pair-requires-2 : tie.Need-pair-requires-2
-pair-requires-2 c κs = search rules
-
-same_length_2 : tie.Need-same-length-2
-same_length_2 c = search rules
-
-returns_3 : tie.Need-returns-3
+returns_3 : tie.Need-returns
 returns_3 c =
     let else = c.before.before.before.before.before in
     let paired = else.before.before.before.before in
     let first = paired.before.before in
-    let a = first.before.before.before.args in
+    let a = first.args in
     let row = row_read a.row [] in
-    performs_as (equated_later row a.number a.row.seen first.if1.false else.if2.false)
+    performs_as (equated_later row a.number a.row.seen first.if-row-eq0.false else.if-row-eq1.false)
     (one_after_another (ask (plain 2 row.last a.number 0)) (λ n. ask (plain 4 row.joined n 0)) (λ n t. ask_grows (plain 4 row.joined n 0) t)
-    paired.pair.ensures c.before.before.pair2.ensures)
+    paired.pair-equation.ensures c.pair.ensures)
 
 pub equate_spec : {M : Type 1} → statement M
 equate_spec =
     tie.close
-    (tie.spec returns pair-requires same_length returns_2 pair-requires-2 same_length_2 returns_3)
+    (tie.spec
+    returns
+    (λ c κs. search rules)
+    (λ c. search rules)
+    returns_2
+    (λ c κs. search rules)
+    (λ c. search rules)
+    returns_3)

@@ -34,74 +34,47 @@ joins_else Head.Implies o row k = refl
 joins_else Head.True o row k = refl
 joins_else Head.False o row k = refl
 
-enum_told : tie.Need-enum-told
-enum_told c = search rules
-
-equate-requires : tie.Need-equate-requires
-equate-requires c κs = search rules
-
-enum_told_2 : tie.Need-enum-told-2
-enum_told_2 c = search rules
-
-join-by-requires : tie.Need-join-by-requires
-join-by-requires c κs = search rules
-
-enum_told_3 : tie.Need-enum-told-3
-enum_told_3 c = search rules
-
-join-by-requires-2 : tie.Need-join-by-requires-2
-join-by-requires-2 c κs = search rules
-
-same_length : tie.Need-same-length
-same_length c = search rules
-
-returns : tie.Need-returns
+returns : tie.Need-returns-in-Equals
 returns c =
     let joined = c.before.before in
     let told = joined.before.before in
-    let a = told.before.before.before.args in
-    performs_as (ap (λ (h : Head). joins (head_read h) (row_read a.row []) a.number) (sym told.enum_told.given.1)) joined.equate.ensures
+    let a = told.args in
+    performs_as (ap (λ (h : Head). joins (head_read h) (row_read a.row []) a.number) (sym told.in-Equals.is)) joined.equate.ensures
 
-same_length_2 : tie.Need-same-length-2
-same_length_2 c = search rules
-
-returns_2 : tie.Need-returns-2
+returns_2 : tie.Need-returns-in-And
 returns_2 c =
     let joined = c.before.before in
     let told = joined.before.before in
-    let a = told.before.before.before.args in
-    performs_as (ap (λ (h : Head). joins (head_read h) (row_read a.row []) a.number) (sym told.enum-told2.given.1)) joined.join_by.ensures
+    let a = told.args in
+    performs_as (ap (λ (h : Head). joins (head_read h) (row_read a.row []) a.number) (sym told.in-And.is)) joined.join_by.ensures
 
-same_length_3 : tie.Need-same-length-3
-same_length_3 c = search rules
-
-returns_3 : tie.Need-returns-3
+returns_3 : tie.Need-returns-in-Or
 returns_3 c =
     let joined = c.before.before in
     let told = joined.before.before in
-    let a = told.before.before.before.args in
-    performs_as (ap (λ (h : Head). joins (head_read h) (row_read a.row []) a.number) (sym told.enum-told3.given.1)) joined.join-by2.ensures
+    let a = told.args in
+    performs_as (ap (λ (h : Head). joins (head_read h) (row_read a.row []) a.number) (sym told.in-Or.is)) joined.join_by-in-Or.ensures
 
-returns_4 : tie.Need-returns-4
+returns_4 : tie.Need-returns-in_default
 returns_4 c =
     let s = c.before.before in
     let a = s.args in
-    performs_as (joins_else a.head c.match.keys4 (row_read a.row []) a.number) (stands_already a.number a.laying s.requires.0.few s.requires.2)
+    performs_as (joins_else a.head c.in_default.in_default-own.keys4 (row_read a.row []) a.number) (stands_already a.number a.laying s.requires.0.few s.requires.2)
 
 pub join_spec : {M : Type 1} → statement M
 join_spec =
     tie.close
     (tie.spec
-    enum_told
-    equate-requires
-    enum_told_2
-    join-by-requires
-    enum_told_3
-    join-by-requires-2
-    same_length
+    (λ c. search rules)
+    (λ c κs. search rules)
+    (λ c. search rules)
+    (λ c κs. search rules)
+    (λ c. search rules)
+    (λ c κs. search rules)
+    (λ c. search rules)
     returns
-    same_length_2
+    (λ c. search rules)
     returns_2
-    same_length_3
+    (λ c. search rules)
     returns_3
     returns_4)

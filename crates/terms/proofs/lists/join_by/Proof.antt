@@ -18,24 +18,24 @@ module _ (row : lists.Row) (k : ℕ) where
   joined_later op zero h = absurd (h refl)
   joined_later op (suc n) h = refl
 
-returns : tie.Need-returns
+returns : tie.Need-returns-then-row-eq0
 returns c =
     let s = c.before.before.before in
     let a = s.args in
-    performs_as (ap (λ m. joined_by a.op m (row_read a.row []) a.number) (sym c.if1.true))
+    performs_as (ap (λ m. joined_by a.op m (row_read a.row []) a.number) (sym c.if-row-eq0.true))
     (stands_already a.number a.laying s.requires.0.few s.requires.2)
 
-pair-requires : tie.Need-pair-requires
-pair-requires c κs = search rules
-
-same_length : tie.Need-same-length
-same_length c = search rules
-
-returns_2 : tie.Need-returns-2
+returns_2 : tie.Need-returns
 returns_2 c =
     let else = c.before.before.before.before in
-    let a = else.before.before.before.args in
-    performs_as (joined_later (row_read a.row []) a.number a.op a.row.seen else.if1.false) c.before.before.pair.ensures
+    let a = else.args in
+    performs_as (joined_later (row_read a.row []) a.number a.op a.row.seen else.if-row-eq0.false) c.pair.ensures
 
 pub join_by_spec : {M : Type 1} → statement M
-join_by_spec = tie.close (tie.spec returns pair-requires same_length returns_2)
+join_by_spec =
+    tie.close
+    (tie.spec
+    returns
+    (λ c κs. search rules)
+    (λ c. search rules)
+    returns_2)

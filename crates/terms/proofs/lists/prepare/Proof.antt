@@ -33,31 +33,26 @@ quiet_else Head.Implies o row t = absurd (miss quiet_tags 6 tt o)
 quiet_else Head.True o row t = refl
 quiet_else Head.False o row t = refl
 
-enum_told : tie.Need-enum-told
-enum_told c = search rules
-
-negate-requires : tie.Need-negate-requires
-negate-requires c κs = search rules
-
-same_length : tie.Need-same-length
-same_length c = search rules
-
-same_length_2 : tie.Need-same-length-2
-same_length_2 c = search rules
-
-returns : tie.Need-returns
+returns : tie.Need-returns-in-Implies
 returns c =
     let negated = c.before.before.before.before in
     let told = negated.before.before.before in
-    let s = told.before.before.before.before in
+    let s = told.before.before.before in
     let a = s.args in
-    rows_as (ap (λ (h : Head). prepared (head_read h)) (sym told.enum_told.given.1)) negated.negate.ensures
+    rows_as (ap (λ (h : Head). prepared (head_read h)) (sym told.in-Implies.is)) negated.negate.ensures
 
-returns_2 : tie.Need-returns-2
+returns_2 : tie.Need-returns-in_default
 returns_2 c =
     let s = c.before.before.before in
-    nothing_done (prepared (head_read s.args.head)) s.requires.2 s.requires.1.few (λ k is t. quiet_else s.args.head c.match.keys2 k t)
+    nothing_done (prepared (head_read s.args.head)) s.requires.2 s.requires.1.few (λ k is t. quiet_else s.args.head c.in_default.in_default-own.keys2 k t)
 
 pub prepare_spec : {M : Type 1} → statement M
 prepare_spec =
-    tie.close (tie.spec enum_told negate-requires same_length same_length_2 returns returns_2)
+    tie.close
+    (tie.spec
+    (λ c. search rules)
+    (λ c κs. search rules)
+    (λ c. search rules)
+    (λ c. search rules)
+    returns
+    returns_2)

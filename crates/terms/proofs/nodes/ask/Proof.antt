@@ -7,54 +7,38 @@ use borrow.Author.Rules.{rules}
 use Rattle.terms.proofs.nodes.ask.Statement.{statement}
 use Rattle.terms.proofs.nodes.ask.Tie as tie
 
-returns : tie.Need-returns
-returns c = no_room c.before.before.requires.0.few c.if1.true
-
-find-requires : tie.Need-find-requires
-find-requires c κs = search rules
-
-enum-known-number : tie.Need-enum-known-number
-enum-known-number c = search rules
-
-enum_told : tie.Need-enum-told
-enum_told c = search rules
+returns : tie.Need-returns-then-laying
+returns c = no_room c.requires.0.few c.if-laying.true
 
 append-requires : tie.Need-append-requires
 append-requires c κs =
-    let found = c.before.before.before in
-    let s = found.before.before.before.before in
-    (s.requires.0, s.requires.1, sym found.find.ensures ∙ ap found_of c.before.enum_told.given.1)
+    let found = c.before.before in
+    let s = found.before.before.before in
+    (s.requires.0, s.requires.1, sym found.find.ensures ∙ ap found_of c.in-Nothing.is)
 
-same_length : tie.Need-same-length
-same_length c = search rules
-
-returns_2 : tie.Need-returns-2
+returns_2 : tie.Need-returns-in-At
 returns_2 c =
-    let found = c.before.before.before in
-    let s = found.before.before.before.before in
+    let found = c.before in
+    let s = found.before.before.before in
     let n = node_read s.args.node in
     let l = s.args.laying in
-    let place = sym found.find.ensures ∙ ap found_of c.before.number.given.1 in
-    found_one n s.args.nodes.now l _ s.requires.0.few found.before.before.if1.false place (found_inside n s.args.nodes.now l.count _ place)
+    let place = sym found.find.ensures ∙ ap found_of c.in-At.is in
+    found_one n s.args.nodes.now l _ s.requires.0.few found.if-laying.false place (found_inside n s.args.nodes.now l.count _ place)
 
-same_length_2 : tie.Need-same-length-2
-same_length_2 c = search rules
-
-returns_3 : tie.Need-returns-3
+returns_3 : tie.Need-returns-in-Nothing
 returns_3 c =
-    let else = c.before.before.before.before.before.before.before.before in
-    with_room else.before.before.args.laying else.if1.false c.before.before.append.ensures
+    with_room c.args.laying c.if-laying.false c.append.ensures
 
 pub ask_spec : {M : Type 1} → statement M
 ask_spec =
     tie.close
     (tie.spec
     returns
-    find-requires
-    enum-known-number
-    enum_told
+    (λ c κs. search rules)
+    (λ c. search rules)
+    (λ c. search rules)
     append-requires
-    same_length
+    (λ c. search rules)
     returns_2
-    same_length_2
+    (λ c. search rules)
     returns_3)

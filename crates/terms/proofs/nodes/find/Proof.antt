@@ -19,72 +19,72 @@ use Rattle.terms.proofs.nodes.find.Tie as tie
 abbrev other : table.Node → table.Node → Bool
 other n m = not (same n m)
 
-abbrev invariant_loop : tie.invariant-loop
+abbrev invariant_loop : tie.invariant-loop-i
 invariant_loop nodes count node i₀ i =
     (i ≤ count) × (failing_from (other (node_read node)) (table_in nodes count) i ≡ place_of (node_read node) (table_in nodes count))
 
-abbrev decreases_loop : tie.decreases-loop
+abbrev decreases_loop : tie.decreases-loop-i
 decreases_loop nodes count node i₀ i = count - i
 
-loop_holds : tie.Need-loop-init invariant_loop decreases_loop
+loop_holds : tie.Need-loop-i-init invariant_loop decreases_loop
 loop_holds c = (omega arith, refl)
 
 -- at the loop's head: the table, and its node i
-module _ (head : tie.At-loop invariant_loop decreases_loop) where
+module _ (head : tie.At-loop-i invariant_loop decreases_loop) where
   abbrev bytes : List ℕ
-  bytes = head.before.before.args.nodes.now
+  bytes = head.args.nodes.now
 
   abbrev count : ℕ
-  count = head.before.before.args.count
+  count = head.args.count
 
   abbrev table_of : List table.Node
   table_of = table_in bytes count
 
   abbrev asked : table.Node
-  asked = node_read head.before.before.args.node
+  asked = node_read head.args.node
 
-  module _ (h : head.loop.i < count) where
-    inside : head.loop.i < length table_of
+  module _ (h : head.loop-i.i < count) where
+    inside : head.loop-i.i < length table_of
     inside = omega (arith, length_nodes_at bytes 0 count)
 
-    tells : {r : Bool} → r ≡ same asked (node_at bytes (8 * head.loop.i)) → other asked (table.node table_of head.loop.i) ≡ not r
+    tells : {r : Bool} → r ≡ same asked (node_at bytes (8 * head.loop-i.i)) → other asked (table.node table_of head.loop-i.i) ≡ not r
     tells e =
-        ap (λ (m : table.Node). other asked m) (node_nodes_at bytes 0 count head.loop.i h ∙ ap (λ (k : ℕ). node_at bytes k) there) ∙ ap not (sym e)
+        ap (λ (m : table.Node). other asked m) (node_nodes_at bytes 0 count head.loop-i.i h ∙ ap (λ (k : ℕ). node_at bytes k) there) ∙ ap not (sym e)
       where
-        there : 0 + 8 * head.loop.i ≡ 8 * head.loop.i
+        there : 0 + 8 * head.loop-i.i ≡ 8 * head.loop-i.i
         there = omega arith
 
-mul-same-node : tie.Need-overflow-mul-same-node invariant_loop decreases_loop
-mul-same-node c = omega (arith, c.before.before.before.requires.few)
+mul-same-node : tie.Need-overflow_mul-i invariant_loop decreases_loop
+mul-same-node c = omega (arith, c.requires.few)
 
-same-node-requires : tie.Need-same-node-requires invariant_loop decreases_loop
-same-node-requires c κs = omega (arith, c.before.before.before.requires.few, c.before.before.before.requires.long)
+same-node-requires : tie.Need-same_node-requires invariant_loop decreases_loop
+same-node-requires c κs = omega (arith, c.requires.few, c.requires.long)
 
-returns : tie.Need-returns invariant_loop decreases_loop
+returns : tie.Need-returns-then-same_node invariant_loop decreases_loop
 returns c =
     let head = c.before.before.before in
-    sym (fails_here (other (asked head)) (table_of head) no_node head.loop.i (inside head (omega arith)) (tells head (omega arith) c.before.same-node.ensures ∙ ap not c.if1.true))
-    ∙ head.loop.invariant.1
+    sym (fails_here (other (asked head)) (table_of head) no_node head.loop-i.i (inside head (omega arith)) (tells head (omega arith) c.same_node.ensures ∙ ap not c.if-same_node.true))
+    ∙ head.loop-i.invariant.1
 
-add-i : tie.Need-overflow-add-i invariant_loop decreases_loop
-add-i c = omega (arith, c.before.before.before.before.before.requires.few)
+add-i : tie.Need-overflow_add-i invariant_loop decreases_loop
+add-i c = omega (arith, c.requires.few)
 
-loop_less : tie.Need-loop-smaller invariant_loop decreases_loop
+loop_less : tie.Need-loop-i-smaller invariant_loop decreases_loop
 loop_less c = omega arith
 
-loop_again : tie.Need-loop-preserved invariant_loop decreases_loop
+loop_again : tie.Need-loop-i-preserved invariant_loop decreases_loop
 loop_again c =
     let head = c.before.before.before in (
       omega arith,
-      sym (fails_later (other (asked head)) (table_of head) no_node head.loop.i (inside head (omega arith)) (tells head (omega arith) c.before.same-node.ensures ∙ ap not c.if1.false))
-          ∙ head.loop.invariant.1,
+      sym (fails_later (other (asked head)) (table_of head) no_node head.loop-i.i (inside head (omega arith)) (tells head (omega arith) c.same_node.ensures ∙ ap not c.if-same_node.false))
+          ∙ head.loop-i.invariant.1,
     )
 
-returns_2 : tie.Need-returns-2 invariant_loop decreases_loop
+returns_2 : tie.Need-returns invariant_loop decreases_loop
 returns_2 c =
     let head = c.before in
-    sym (fails_nowhere (other (asked head)) (table_of head) head.loop.i (omega (arith, length_nodes_at head.before.before.args.nodes.now 0 head.before.before.args.count)))
-    ∙ head.loop.invariant.1
+    sym (fails_nowhere (other (asked head)) (table_of head) head.loop-i.i (omega (arith, length_nodes_at head.args.nodes.now 0 head.args.count)))
+    ∙ head.loop-i.invariant.1
 
 pub find_spec : {M : Type 1} → statement M
 find_spec =

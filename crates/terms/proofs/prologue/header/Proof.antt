@@ -16,68 +16,26 @@ use Rattle.terms.proofs.prologue.header.Tie as tie
 abbrev rest : ℕ → Stage
 rest k = each (drop k HEADER) naming
 
-slice-aggregate-exact : tie.Need-slice-aggregate-exact
-slice-aggregate-exact c = search rules
-
-exact-requires : tie.Need-exact-requires
-exact-requires c κs = search rules
-
-slice-aggregate-exact-2 : tie.Need-slice-aggregate-exact-2
-slice-aggregate-exact-2 c = search rules
-
-exact-requires-2 : tie.Need-exact-requires-2
-exact-requires-2 c κs = search rules
-
-slice-aggregate-exact-3 : tie.Need-slice-aggregate-exact-3
-slice-aggregate-exact-3 c = search rules
-
-exact-requires-3 : tie.Need-exact-requires-3
-exact-requires-3 c κs = search rules
-
-slice-aggregate-exact-4 : tie.Need-slice-aggregate-exact-4
-slice-aggregate-exact-4 c = search rules
-
-exact-requires-4 : tie.Need-exact-requires-4
-exact-requires-4 c κs = search rules
-
-slice-aggregate-exact-5 : tie.Need-slice-aggregate-exact-5
-slice-aggregate-exact-5 c = search rules
-
-exact-requires-5 : tie.Need-exact-requires-5
-exact-requires-5 c κs = search rules
-
-slice-aggregate-exact-6 : tie.Need-slice-aggregate-exact-6
-slice-aggregate-exact-6 c = search rules
-
-exact-requires-6 : tie.Need-exact-requires-6
-exact-requires-6 c κs = search rules
-
 returns : tie.Need-returns
 returns c =
-    let text = c.before.before.before.before.before.before.before.before.before.before.before.before.before.args.text.now in (
-      exactly_on text start (word (ascii "declare-sort")) naming c.before.before.exact5.result c.exact6.result (omega arith) c.exact6.ensures.0
-          (exactly_on text start opening (rest 5) c.before.before.before.before.exact4.result c.before.before.exact5.result (omega arith) c.before.before.exact5.ensures.0
-          (exactly_on text start closing (rest 4) c.before.before.before.before.before.before.exact3.result c.before.before.before.before.exact4.result (omega arith) c.before.before.before.before.exact4.ensures.0
-          (exactly_on text start (symbol (ascii "QF_UF")) (rest 3) c.before.before.before.before.before.before.before.before.exact2.result c.before.before.before.before.before.before.exact3.result (omega arith) c.before.before.before.before.before.before.exact3.ensures.0
-          (exactly_on text start (word (ascii "set-logic")) (rest 2) c.before.before.before.before.before.before.before.before.before.before.exact.result c.before.before.before.before.before.before.before.before.exact2.result (omega arith) c.before.before.before.before.before.before.before.before.exact2.ensures.0
-          (exactly_on text start opening (rest 1) (Step.At 0) c.before.before.before.before.before.before.before.before.before.before.exact.result (omega arith) c.before.before.before.before.before.before.before.before.before.before.exact.ensures.0 (reached_start text)))))),
-      c.exact6.ensures.1,
+    let text = c.args.text.now in (
+      exactly_on text start (word (ascii "declare-sort")) naming c.exact-sort.result c.exact.result (omega arith) c.exact.ensures.0
+          (exactly_on text start opening (rest 5) c.exact-closed.result c.exact-sort.result (omega arith) c.exact-sort.ensures.0
+          (exactly_on text start closing (rest 4) c.exact-named.result c.exact-closed.result (omega arith) c.exact-closed.ensures.0
+          (exactly_on text start (symbol (ascii "QF_UF")) (rest 3) c.exact-logic.result c.exact-named.result (omega arith) c.exact-named.ensures.0
+          (exactly_on text start (word (ascii "set-logic")) (rest 2) c.exact-opened.result c.exact-logic.result (omega arith) c.exact-logic.ensures.0
+          (exactly_on text start opening (rest 1) (Step.At 0) c.exact-opened.result (omega arith) c.exact-opened.ensures.0 (reached_start text)))))),
+      c.exact.ensures.1,
     )
 
 pub header_spec : {M : Type 1} → statement M
 header_spec =
     tie.close
     (tie.spec
-    slice-aggregate-exact
-    exact-requires
-    slice-aggregate-exact-2
-    exact-requires-2
-    slice-aggregate-exact-3
-    exact-requires-3
-    slice-aggregate-exact-4
-    exact-requires-4
-    slice-aggregate-exact-5
-    exact-requires-5
-    slice-aggregate-exact-6
-    exact-requires-6
+    (λ c κs. search rules)
+    (λ c κs. search rules)
+    (λ c κs. search rules)
+    (λ c κs. search rules)
+    (λ c κs. search rules)
+    (λ c κs. search rules)
     returns)

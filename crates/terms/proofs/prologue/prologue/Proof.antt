@@ -20,123 +20,91 @@ use Rattle.terms.proofs.prologue.prologue.Statement.{statement}
 use Rattle.terms.proofs.prologue.prologue.Tie as tie
 
 -- the sort may be named
-module _ (c : tie.After-known-told2) where
+module _ (c : tie.In-At) where
   abbrev begin : tie.Start
-  begin = c.before.before.before.before.before
+  begin = c.before.before.before
 
   abbrev text : List ℕ
   text = begin.args.text.now
 
   abbrev ahead : ℕ
-  ahead = c.before.begun2.given.0.0
+  ahead = c.in-At.at
 
   at_naming : Reached text (goes start naming) ahead
-  at_naming = subst (ReachedBy text (goes start naming)) c.before.begun2.given.1 c.before.before.before.header.ensures.0
+  at_naming = subst (ReachedBy text (goes start naming)) c.in-At.is c.header-begun.ensures.0
 
   at_inside : ahead ≤ length text
-  at_inside = subst (StepWithin text) c.before.begun2.given.1 c.before.before.before.header.ensures.1
+  at_inside = subst (StepWithin text) c.in-At.is c.header-begun.ensures.1
 
 -- the sort is named
-module _ (c : tie.After-known-told4) where
-  abbrev sorted : tie.After-known-told2
-  sorted = c.before.before.before.before
+module _ (c : tie.In-Name) where
+  abbrev sorted : tie.In-At
+  sorted = c.before.before
 
   abbrev sort : Name
-  sort = c.before.name.given.0.0
+  sort = c.in-Name.name
 
   abbrev behind : ℕ
-  behind = c.before.name.given.0.1.0
+  behind = c.in-Name.behind
 
   is_named : SortNamed (text sorted) (Named.Name sort behind)
-  is_named = subst (SortNamed (text sorted)) c.before.name.given.1 c.before.before.before.sort-name.ensures
+  is_named = subst (SortNamed (text sorted)) c.in-Name.is c.sort_name.ensures
 
 -- its declaration is closed
-closed_by : (c : tie.After-exact2) → let known = c.before.before.before.before in
-    ReachedBy (text (sorted known)) (at_command (name_of (text (sorted known)) (sort known)) []) c.exact2.result
+closed_by : (c : tie.After-exact-closed) → let known = c.before.before.before.before.before.before in
+    ReachedBy (text (sorted known)) (at_command (name_of (text (sorted known)) (sort known)) []) c.exact-closed.result
 closed_by c =
-    let known = c.before.before.before.before in
+    let known = c.before.before.before.before.before.before in
     let st = sort_read (name_of (text (sorted known)) (sort known)) in
-    exactly_on (text (sorted known)) st closing (exact opening commanding) c.before.before.exact.result c.exact2.result (omega arith) c.exact2.ensures.0
-    (exactly_on (text (sorted known)) st nought (exact closing (exact opening commanding)) (Step.At (behind known)) c.before.before.exact.result (omega arith)
-    c.before.before.exact.ensures.0 (is_named known).0)
+    exactly_on (text (sorted known)) st closing (exact opening commanding) c.exact-counted.result c.exact-closed.result (omega arith) c.exact-closed.ensures.0
+    (exactly_on (text (sorted known)) st nought (exact closing (exact opening commanding)) (Step.At (behind known)) c.exact-counted.result (omega arith)
+    c.exact-counted.ensures.0 (is_named known).0)
 
-header-requires : tie.Need-header-requires
-header-requires c κs = search rules
-
-enum-known-begun : tie.Need-enum-known-begun
-enum-known-begun c = search rules
-
-enum-known-begun-2 : tie.Need-enum-known-begun-2
-enum-known-begun-2 c = search rules
-
-sort-name-requires : tie.Need-sort-name-requires
+sort-name-requires : tie.Need-sort_name-requires
 sort-name-requires c κs = (at_naming c, at_inside c)
 
-enum-known-place : tie.Need-enum-known-place
-enum-known-place c = search rules
+exact-requires : tie.Need-exact-counted-requires
+exact-requires c κs = (is_named c.before.before).2
 
-enum-known-name : tie.Need-enum-known-name
-enum-known-name c = search rules
-
-slice-aggregate-exact : tie.Need-slice-aggregate-exact
-slice-aggregate-exact c = search rules
-
-exact-requires : tie.Need-exact-requires
-exact-requires c κs = (is_named c.before).2
-
-slice-aggregate-exact-2 : tie.Need-slice-aggregate-exact-2
-slice-aggregate-exact-2 c = search rules
-
-exact-requires-2 : tie.Need-exact-requires-2
-exact-requires-2 c κs = search rules
-
-enum-known-closed : tie.Need-enum-known-closed
-enum-known-closed c = search rules
-
-enum-known-closed-2 : tie.Need-enum-known-closed-2
-enum-known-closed-2 c = search rules
-
-returns : tie.Need-returns
+returns : tie.Need-returns-in-Wrong
 returns c =
-    let s = c.before.before.before.before.before in
-    subst (ReachedBy s.args.text.now (goes start naming)) c.before.begun.given.1 c.before.before.before.header.ensures.0
+    let s = c.before.before.before in
+    subst (ReachedBy s.args.text.now (goes start naming)) c.in-Wrong.is c.header-begun.ensures.0
 
-returns_2 : tie.Need-returns-2
+returns_2 : tie.Need-returns-in-Wrong-sort_name
 returns_2 c =
-    let known = c.before.before.before.before in
-    subst (SortNamed (text known)) c.before.place.given.1 c.before.before.before.sort-name.ensures
+    let known = c.before.before in
+    subst (SortNamed (text known)) c.in-Wrong-sort_name.is c.sort_name.ensures
 
-returns_3 : tie.Need-returns-3
+returns_3 : tie.Need-returns-in-Wrong-closed
 returns_3 c =
-    let exacts = c.before.before.before in
-    let known = exacts.before.before.before.before in
-    subst (ReachedBy (text (sorted known)) (at_command (name_of (text (sorted known)) (sort known)) [])) c.before.closed.given.1 (closed_by exacts)
+    let exacts = c.before in
+    let known = exacts.before.before.before.before.before.before in
+    subst (ReachedBy (text (sorted known)) (at_command (name_of (text (sorted known)) (sort known)) [])) c.in-Wrong-closed.is (closed_by exacts)
 
-returns_4 : tie.Need-returns-4
+returns_4 : tie.Need-returns-in-At-closed
 returns_4 c =
-    let exacts = c.before.before.before in
-    let known = exacts.before.before.before.before in (
-      subst (ReachedBy (text (sorted known)) (at_command (name_of (text (sorted known)) (sort known)) [])) c.before.closed2.given.1 (closed_by exacts),
+    let exacts = c.before in
+    let known = exacts.before.before.before.before.before.before in (
+      subst (ReachedBy (text (sorted known)) (at_command (name_of (text (sorted known)) (sort known)) [])) c.in-At-closed.is (closed_by exacts),
       (is_named known).1,
-      subst (StepWithin (text (sorted known))) c.before.closed2.given.1 exacts.exact2.ensures.1,
+      subst (StepWithin (text (sorted known))) c.in-At-closed.is exacts.exact-closed.ensures.1,
     )
 
 pub prologue_spec : {M : Type 1} → statement M
 prologue_spec =
     tie.close
     (tie.spec
-    header-requires
-    enum-known-begun
-    enum-known-begun-2
+    (λ c κs. search rules)
+    (λ c. search rules)
+    (λ c. search rules)
     sort-name-requires
-    enum-known-place
-    enum-known-name
-    slice-aggregate-exact
+    (λ c. search rules)
+    (λ c. search rules)
     exact-requires
-    slice-aggregate-exact-2
-    exact-requires-2
-    enum-known-closed
-    enum-known-closed-2
+    (λ c κs. search rules)
+    (λ c. search rules)
+    (λ c. search rules)
     returns
     returns_2
     returns_3

@@ -14,79 +14,64 @@ use borrow.Author.Rules.{rules}
 use Rattle.terms.proofs.prologue.sort_name.Statement.{statement}
 use Rattle.terms.proofs.prologue.sort_name.Tie as tie
 
-next_requires : tie.Need-next-requires
-next_requires c κs = search rules
-
-enum-known-lexeme : tie.Need-enum-known-lexeme
-enum-known-lexeme c = search rules
-
-returns : tie.Need-returns
+returns : tie.Need-returns-in_default
 returns c =
     let s = c.before.before.before in
-    let lexed = c.before.next in
-    no_sort_lem s.args.text.now s.args.at s.requires.0 lexed.result lexed.ensures (no_symbol_there s.args.text.now lexed.result.lexeme c.match.keys2)
+    let lexed = c.next-token in
+    no_sort_lem s.args.text.now s.args.at s.requires.0 lexed.result lexed.ensures (no_symbol_there s.args.text.now lexed.result.lexeme c.in_default.in_default-own.keys2)
 
 -- the name that is found
-module _ (c : tie.After-known-told) where
+module _ (c : tie.In-Symbol) where
   abbrev begin : tie.Start
-  begin = c.before.before.before.before.before
+  begin = c.before.before.before
 
   abbrev text : List ℕ
   text = begin.args.text.now
 
   abbrev found : Name
-  found = c.before.lexeme.given.0.0
+  found = c.in-Symbol.name
 
-  is_symbol : c.before.before.before.next.result.lexeme ≡ Lexeme.Symbol found
-  is_symbol = c.before.lexeme.given.1
+  is_symbol : c.next-token.result.lexeme ≡ Lexeme.Symbol found
+  is_symbol = c.in-Symbol.is
 
   inside : NameWithin text found
   inside =
       subst (LexemeFits text) is_symbol
-      (lexeme_fits text begin.args.at c.before.before.before.next.result c.before.before.before.next.result.lexeme c.before.before.before.next.ensures.fits)
+      (lexeme_fits text begin.args.at c.next-token.result c.next-token.result.lexeme c.next-token.ensures.fits)
 
-  reads : lexeme_read text c.before.before.before.next.result.lexeme ≡ some (symbol (name_of text found))
+  reads : lexeme_read text c.next-token.result.lexeme ≡ some (symbol (name_of text found))
   reads = ap (lexeme_read text) is_symbol
 
-sub-sort-free : tie.Need-overflow-sub-sort-free
+sub-sort-free : tie.Need-slice_bounds-sort_free-count
 sub-sort-free c = (inside c).0
 
-part-sort-free-start : tie.Need-slice-bounds-sort-free-start
-part-sort-free-start c = omega (arith, (inside c).0, (inside c).1)
-
-part-sort-free-end : tie.Need-slice-bounds-sort-free-end
-part-sort-free-end c = omega (arith, (inside c).1)
-
-sort-free-requires : tie.Need-sort-free-requires
-sort-free-requires c κs = search rules
-
-returns_2 : tie.Need-returns-2
+returns_2 : tie.Need-returns-then-sort_free
 returns_2 c =
     let known = c.before.before.before in
     let s = begin known in
-    let lexed = known.before.before.before.next in (
-      sort_named (text known) s.args.at s.pre.0 lexed.result lexed.ensures _ (reads known) (sym c.before.sort-free.ensures ∙ c.if1.true),
+    let lexed = known.next-token in (
+      sort_named (text known) s.args.at s.requires.0 lexed.result lexed.ensures _ (reads known) (sym c.sort_free.ensures ∙ c.if-sort_free.true),
       inside known,
       lexed.ensures.inside,
     )
 
-returns_3 : tie.Need-returns-3
+returns_3 : tie.Need-returns
 returns_3 c =
     let known = c.before.before.before in
     let s = begin known in
-    let lexed = known.before.before.before.next in
-    sort_taken (text known) s.args.at s.pre.0 lexed.result lexed.ensures _ (reads known) (sym c.before.sort-free.ensures ∙ c.if1.false)
+    let lexed = known.next-token in
+    sort_taken (text known) s.args.at s.requires.0 lexed.result lexed.ensures _ (reads known) (sym c.sort_free.ensures ∙ c.if-sort_free.false)
 
 pub sort_name_spec : {M : Type 1} → statement M
 sort_name_spec =
     tie.close
     (tie.spec
-    next_requires
-    enum-known-lexeme
+    (λ c κs. search rules)
+    (λ c. search rules)
     returns
     sub-sort-free
-    part-sort-free-start
-    part-sort-free-end
-    sort-free-requires
+    (λ c. search rules)
+    (λ c. search rules)
+    (λ c κs. search rules)
     returns_2
     returns_3)

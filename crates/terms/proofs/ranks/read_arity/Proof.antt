@@ -23,12 +23,12 @@ use Rattle.terms.proofs.RankSteps.{arity_closes, sort_taken, arity_wrong}
 use Rattle.terms.proofs.ranks.read_arity.Statement.{statement}
 use Rattle.terms.proofs.ranks.read_arity.Tie as tie
 
-abbrev invariant_loop : tie.invariant-loop
+abbrev invariant_loop : tie.invariant-loop-arity
 invariant_loop text from sort at₀ arity₀ at arity =
     (at ≤ length text) × (arity ≤ 3) × (from ≤ at)
     × ((cs : List Command) (name : List ℕ) → Reached text (in_taking (name_of text sort) cs name 0) from → Reached text (in_taking (name_of text sort) cs name arity) at)
 
-abbrev decreases_loop : tie.decreases-loop
+abbrev decreases_loop : tie.decreases-loop-arity
 decreases_loop text from sort at₀ arity₀ at arity = length text - at
 
 -- neither a closing bracket nor the sort
@@ -40,90 +40,84 @@ neither text l sn Part.Bool o e = (ap (is_token closing) e.0, e.1)
 neither text l sn Part.Other o e = (e.0, e.1)
 
 -- the sort stands there
-sort_is_lem : (c : tie.After-next invariant_loop decreases_loop) (p : Part) → p ≡ Part.Sort
-    → let text = c.before.before.before.args.text.now in
-    PartIs text c.next.result.lexeme (name_of text c.before.before.before.args.sort) p
-    → lexeme_read text c.next.result.lexeme ≡ some (symbol (name_of text c.before.before.before.args.sort))
+sort_is_lem : (c : tie.After-next-token invariant_loop decreases_loop) (p : Part) → p ≡ Part.Sort
+    → let text = c.args.text.now in
+    PartIs text c.next-token.result.lexeme (name_of text c.args.sort) p
+    → lexeme_read text c.next-token.result.lexeme ≡ some (symbol (name_of text c.args.sort))
 sort_is_lem c p e is = subst (PartIs _ _ _) e is
 
-loop_holds : tie.Need-loop-init invariant_loop decreases_loop
+loop_holds : tie.Need-loop-arity-init invariant_loop decreases_loop
 loop_holds c = (omega arith, omega arith, omega arith, λ cs name r. r)
 
-next_requires : tie.Need-next-requires invariant_loop decreases_loop
+next_requires : tie.Need-next-token-requires invariant_loop decreases_loop
 next_requires c κs = omega arith
 
-part-of-requires : tie.Need-part-of-requires invariant_loop decreases_loop
+part-of-requires : tie.Need-part_of-requires invariant_loop decreases_loop
 part-of-requires c κs =
     let s = c.before.before.before in
-    (lexeme_fits s.args.text.now c.before.loop.at c.next.result c.next.result.lexeme c.next.ensures.fits, s.requires.1)
+    (lexeme_fits s.args.text.now c.loop-arity.at c.next-token.result c.next-token.result.lexeme c.next-token.ensures.fits, s.requires.1)
 
-enum_told : tie.Need-enum-told invariant_loop decreases_loop
-enum_told c = search rules
-
-returns : tie.Need-returns invariant_loop decreases_loop
+returns : tie.Need-returns-in-Closing invariant_loop decreases_loop
 returns c =
-    let part = c.before.before in
-    let lexed = part.before.next in
+    let part = c.before in
+    let lexed = part.next-token in
     let head = part.before.before in
-    let text = head.before.before.args.text.now in
-    let is = subst (PartIs text _ _) c.enum_told.given.1 part.part_of.ensures in
+    let text = head.args.text.now in
+    let is = subst (PartIs text _ _) c.in-Closing.is part.part_of.ensures in
     record {
       sound = (omega arith, lexed.ensures.inside, omega (arith, lexed.ensures.later));
-      says = λ cs name r. arity_closes text _ cs name head.loop.arity head.loop.at lexed.result lexed.ensures (head.loop.invariant.3 cs name r) is;
+      says = λ cs name r. arity_closes text _ cs name head.loop-arity.arity head.loop-arity.at lexed.result lexed.ensures (head.loop-arity.invariant.3 cs name r) is;
     }
 
-enum_told_2 : tie.Need-enum-told-2 invariant_loop decreases_loop
-enum_told_2 c = search rules
-
-returns_2 : tie.Need-returns-2 invariant_loop decreases_loop
+returns_2 : tie.Need-returns-then-arity-eq3 invariant_loop decreases_loop
 returns_2 c =
-    let part = c.before.before.before in
-    let lexed = part.before.next in
+    let part = c.before.before in
+    let lexed = part.next-token in
     let head = part.before.before in
-    let text = head.before.before.args.text.now in
-    let is = sort_is_lem part.before part.part_of.result c.before.enum-told2.given.1 part.part_of.ensures in
+    let text = head.args.text.now in
+    let is = sort_is_lem part.before part.part_of.result c.in-Sort.is part.part_of.ensures in
     record {
       sound = tt;
       says = λ cs name r.
-          arity_wrong text _ cs name head.loop.arity head.loop.at lexed.result lexed.ensures (head.loop.invariant.3 cs name r) (ap (is_token closing) is) (inr (omega arith));
+          arity_wrong text _ cs name head.loop-arity.arity head.loop-arity.at lexed.result lexed.ensures (head.loop-arity.invariant.3 cs name r) (ap (is_token closing) is) (inr (omega arith));
     }
 
-add-arity : tie.Need-overflow-add-arity invariant_loop decreases_loop
+add-arity : tie.Need-overflow_add-arity invariant_loop decreases_loop
 add-arity c = omega arith
 
-loop_less : tie.Need-loop-smaller invariant_loop decreases_loop
+loop_less : tie.Need-loop-arity-smaller invariant_loop decreases_loop
 loop_less c =
-    let part = c.before.before.before in
-    let lexed = part.before.next in
+    let part = c.before.before in
+    let lexed = part.next-token in
     let head = part.before.before in
-    let text = head.before.before.args.text.now in
-    let on = goes_on text head.loop.at lexed.result lexed.result.lexeme lexed.ensures.fits (sort_is_lem part.before part.part_of.result c.before.enum-told2.given.1 part.part_of.ensures) in
+    let text = head.args.text.now in
+    let on = goes_on text head.loop-arity.at lexed.result lexed.result.lexeme lexed.ensures.fits (sort_is_lem part.before part.part_of.result c.in-Sort.is part.part_of.ensures) in
     omega (arith, lexed.ensures.inside)
 
-loop_again : tie.Need-loop-preserved invariant_loop decreases_loop
+loop_again : tie.Need-loop-arity-preserved invariant_loop decreases_loop
 loop_again c =
-    let part = c.before.before.before in
-    let lexed = part.before.next in
+    let part = c.before.before in
+    let lexed = part.next-token in
     let head = part.before.before in
-    let text = head.before.before.args.text.now in
-    let is = sort_is_lem part.before part.part_of.result c.before.enum-told2.given.1 part.part_of.ensures in (
+    let text = head.args.text.now in
+    let is = sort_is_lem part.before part.part_of.result c.in-Sort.is part.part_of.ensures in (
       lexed.ensures.inside,
       omega arith,
       omega (arith, lexed.ensures.later),
-      λ cs name r. sort_taken text _ cs name head.loop.arity head.loop.at lexed.result lexed.ensures (head.loop.invariant.3 cs name r) is (omega arith),
+      λ cs name r. sort_taken text _ cs name head.loop-arity.arity head.loop-arity.at lexed.result lexed.ensures (head.loop-arity.invariant.3 cs name r) is (omega arith),
     )
 
-returns_3 : tie.Need-returns-3 invariant_loop decreases_loop
+returns_3 : tie.Need-returns-in-Bool invariant_loop decreases_loop
 returns_3 c =
     let part = c.before in
-    let lexed = part.before.next in
+    let lexed = part.next-token in
     let head = part.before.before in
-    let text = head.before.before.args.text.now in
-    let no = neither text lexed.result.lexeme _ part.part_of.result c.match.keys3 part.part_of.ensures in
+    let text = head.args.text.now in
+    let no = neither text lexed.result.lexeme _ part.part_of.result c.in-Bool.in-Bool-own.keys3 part.part_of.ensures in
     record {
       sound = tt;
       says = λ cs name r.
-          arity_wrong text _ cs name head.loop.arity head.loop.at lexed.result lexed.ensures (head.loop.invariant.3 cs name r) no.0 (inl no.1);
+          arity_wrong text _ cs name head.loop-arity.arity head.loop-arity.at lexed.result lexed.ensures (head.loop-arity.invariant.3 cs name r) no.0 (inl no.1);
     }
 
 pub read_arity_spec : {M : Type 1} → statement M
@@ -135,9 +129,9 @@ read_arity_spec =
     loop_holds
     next_requires
     part-of-requires
-    enum_told
+    (λ c. search rules)
     returns
-    enum_told_2
+    (λ c. search rules)
     returns_2
     add-arity
     loop_less

@@ -19,9 +19,6 @@ use borrow.Author.Rules.{rules}
 use Rattle.terms.proofs.ranks.read_result.Statement.{statement}
 use Rattle.terms.proofs.ranks.read_result.Tie as tie
 
-next_requires : tie.Need-next-requires
-next_requires c κs = search rules
-
 -- neither the sort nor Bool
 neither : (text : List ℕ) (l : Lexeme) (sn : List ℕ) (p : Part) → OneOf (0 ∷ 3 ∷ []) (Declared.tag_of the_type p) → PartIs text l sn p
     → (is_token (symbol sn) (lexeme_read text l) ≡ false) × (is_token (symbol BOOL) (lexeme_read text l) ≡ false)
@@ -30,43 +27,37 @@ neither text l sn Part.Sort o e = absurd (miss (0 ∷ 3 ∷ []) 1 tt o)
 neither text l sn Part.Bool o e = absurd (miss (0 ∷ 3 ∷ []) 2 tt o)
 neither text l sn Part.Other o e = (e.1, e.2)
 
-part-of-requires : tie.Need-part-of-requires
-part-of-requires c κs = let s = c.before.before in (lexeme_fits s.args.text.now s.args.at c.next.result c.next.result.lexeme c.next.ensures.fits, s.requires.1)
+part-of-requires : tie.Need-part_of-requires
+part-of-requires c κs = let s = c.before.before in (lexeme_fits s.args.text.now s.args.at c.next-token.result c.next-token.result.lexeme c.next-token.ensures.fits, s.requires.1)
 
-enum_told : tie.Need-enum-told
-enum_told c = search rules
-
-enum_told_2 : tie.Need-enum-told-2
-enum_told_2 c = search rules
-
-returns : tie.Need-returns
+returns : tie.Need-returns-in-Sort
 returns c =
-    let part = c.before.before in
-    let lexed = part.before.next in
+    let part = c.before in
+    let lexed = part.next-token in
     let s = part.before.before.before in
-    let is = subst (PartIs s.args.text.now _ _) c.enum_told.given.1 part.part_of.ensures in
+    let is = subst (PartIs s.args.text.now _ _) c.in-Sort.is part.part_of.ensures in
     record {
       sound = (lexed.ensures.inside, lexed.ensures.later);
       says = λ cs name k r. sort_given s.args.text.now _ cs name k s.args.at lexed.result lexed.ensures r is;
     }
 
-returns_2 : tie.Need-returns-2
+returns_2 : tie.Need-returns-in-Bool
 returns_2 c =
-    let part = c.before.before in
-    let lexed = part.before.next in
+    let part = c.before in
+    let lexed = part.next-token in
     let s = part.before.before.before in
-    let is = subst (PartIs s.args.text.now _ _) c.enum-told2.given.1 part.part_of.ensures in
+    let is = subst (PartIs s.args.text.now _ _) c.in-Bool.is part.part_of.ensures in
     record {
       sound = (lexed.ensures.inside, lexed.ensures.later);
       says = λ cs name k r. bool_given s.args.text.now _ cs name k s.args.at lexed.result lexed.ensures r is.0 is.1;
     }
 
-returns_3 : tie.Need-returns-3
+returns_3 : tie.Need-returns-in-Closing
 returns_3 c =
     let part = c.before in
-    let lexed = part.before.next in
+    let lexed = part.next-token in
     let s = part.before.before.before in
-    let no = neither s.args.text.now lexed.result.lexeme _ part.part_of.result c.match.keys3 part.part_of.ensures in
+    let no = neither s.args.text.now lexed.result.lexeme _ part.part_of.result c.in-Closing.in-Closing-own.keys3 part.part_of.ensures in
     record {
       sound = tt;
       says = λ cs name k r. result_wrong s.args.text.now _ cs name k s.args.at lexed.result lexed.ensures r no.0 no.1;
@@ -75,4 +66,11 @@ returns_3 c =
 pub read_result_spec : {M : Type 1} → statement M
 read_result_spec =
     tie.close
-    (tie.spec next_requires part-of-requires enum_told enum_told_2 returns returns_2 returns_3)
+    (tie.spec
+    (λ c κs. search rules)
+    part-of-requires
+    (λ c. search rules)
+    (λ c. search rules)
+    returns
+    returns_2
+    returns_3)

@@ -18,29 +18,26 @@ use Rattle.terms.proofs.terms.bare_term.Statement.{statement}
 use Rattle.terms.proofs.terms.bare_term.Tie as tie
 
 -- the symbol that is found
-module _ (c : tie.After-known-told) where
+module _ (c : tie.In-Symbol) where
   abbrev begin : tie.Start
-  begin = c.before.before.before.before.before.before
+  begin = c.before.before.before.before
 
   abbrev text : List ℕ
   text = begin.args.text.now
 
   abbrev found : Name
-  found = c.before.lexeme.given.0.0
+  found = c.in-Symbol.name
 
   is_symbol : begin.args.token.lexeme ≡ Lexeme.Symbol found
-  is_symbol = c.before.lexeme.given.1
+  is_symbol = c.in-Symbol.is
 
   inside : NameWithin text found
-  inside = subst (LexemeFits text) is_symbol begin.pre.lexeme_fits
+  inside = subst (LexemeFits text) is_symbol begin.requires.lexeme_fits
 
   reads : lexeme_read text begin.args.token.lexeme ≡ some (symbol (name_of text found))
   reads = ap (lexeme_read text) is_symbol
 
-enum-known-lexeme : tie.Need-enum-known-lexeme
-enum-known-lexeme c = search rules
-
-returns : tie.Need-returns
+returns : tie.Need-returns-in_default
 returns c =
     let s = c.before.before.before.before in
     let t = s.args.token in
@@ -48,68 +45,50 @@ returns c =
       sound = tt;
       says = λ levels q sn cs w row outer at wanted.
           nothing_bare s.args.text.now sn cs w row outer at wanted.reached t wanted.lexed (sort_is s.args.formula) wanted.wanted
-          (no_symbol_there s.args.text.now t.lexeme c.match.keys2) wanted.unclosed q;
+          (no_symbol_there s.args.text.now t.lexeme c.in_default.in_default-own.keys2) wanted.unclosed q;
     }
 
 bare-requires : tie.Need-bare-requires
 bare-requires c κs = ((begin c).requires.declared_sound, inside c)
 
-enum_known_head : tie.Need-enum-known-head
-enum_known_head c = search rules
-
-enum_told : tie.Need-enum-told
-enum_told c = search rules
-
-returns_2 : tie.Need-returns-2
+returns_2 : tie.Need-returns-in_default-bare
 returns_2 c =
-    let tried = c.before.before in
+    let tried = c.before in
     let known = tried.before in
     let t = (begin known).args.token in
     record {
       sound = tt;
       says = λ levels q sn cs w row outer at wanted.
           bare_wrong (text known) sn cs w row outer at wanted.reached t wanted.lexed (sort_is (begin known).args.formula) wanted.wanted (symbol (name_of (text known) (found known))) (reads known) refl refl
-          (subst (HeadedIs (symbols_in cs) _) c.enum_told.given.1 (tried.bare.ensures.head sn cs wanted.symbols));
+          (subst (HeadedIs (symbols_in cs) _) c.in_default-bare.is (tried.bare.ensures.head sn cs wanted.symbols));
     }
 
-empty_requires : tie.Need-empty-requires
-empty_requires c κs = search rules
-
-slice_aggregate_finish : tie.Need-slice-aggregate-finish
-slice_aggregate_finish c = search rules
-
-finish_requires : tie.Need-finish-requires
-finish_requires c κs = search rules
-
-same_length : tie.Need-same-length
-same_length c = search rules
-
-returns_3 : tie.Need-returns-3
+returns_3 : tie.Need-returns
 returns_3 c =
     let finished = c.before.before in
     let named = finished.before.before.before.before in
-    let tried = named.before.before.before in
+    let tried = named.before in
     let known = tried.before in
-    let ends = finished.finish.ensures in
+    let ends = finished.finish-asked.ensures in
     record {
       sound = (omega arith, (begin known).requires.token_inside, ends.small, ends.few);
       says = λ levels q sn cs w row outer at wanted.
-          let headed = subst (HeadedIs (symbols_in cs) _) named.before.head.given.1 (tried.bare.ensures.head sn cs wanted.symbols) in
-          bare_read (name_of (text known) (found known)) named.before.head.given.0.0 wanted (reads known) headed.0 (finished.before.before.before.empty.ensures.0 _) ends;
+          let headed = subst (HeadedIs (symbols_in cs) _) named.in-Head.is (tried.bare.ensures.head sn cs wanted.symbols) in
+          bare_read (name_of (text known) (found known)) named.in-Head.head wanted (reads known) headed.0 (finished.empty.ensures.0 _) ends;
     }
 
 pub bare_term_spec : {M : Type 1} → statement M
 bare_term_spec =
     tie.close
     (tie.spec
-    enum-known-lexeme
+    (λ c. search rules)
     returns
     bare-requires
-    enum_known_head
-    enum_told
+    (λ c. search rules)
+    (λ c. search rules)
     returns_2
-    empty_requires
-    slice_aggregate_finish
-    finish_requires
-    same_length
+    (λ c κs. search rules)
+    (λ c. search rules)
+    (λ c κs. search rules)
+    (λ c. search rules)
     returns_3)

@@ -10,68 +10,68 @@ use Rattle.terms.proofs.LexLaws.{blank_white, blank_semicolon, blank_ends}
 use Rattle.terms.proofs.tokens.blank_end.Statement.{statement}
 use Rattle.terms.proofs.tokens.blank_end.Tie as tie
 
-abbrev invariant_loop : tie.invariant-loop
+abbrev invariant_loop : tie.invariant-loop-at
 invariant_loop text from at₀ at = (at ≤ length text) × (from + blank false (drop from text) ≡ at + blank false (drop at text))
 
-abbrev decreases_loop : tie.decreases-loop
+abbrev decreases_loop : tie.decreases-loop-at
 decreases_loop text from at₀ at = length text - at
 
-loop_holds : tie.Need-loop-init invariant_loop decreases_loop
+loop_holds : tie.Need-loop-at-init invariant_loop decreases_loop
 loop_holds c = (omega arith, refl)
 
-shared-slice-read-b : tie.Need-shared-slice-read-b invariant_loop decreases_loop
+shared-slice-read-b : tie.Need-bounds-text-at invariant_loop decreases_loop
 shared-slice-read-b c = omega arith
 
 white-requires : tie.Need-white-requires invariant_loop decreases_loop
 white-requires c κs = tt
 
-add_at : tie.Need-overflow-add-at invariant_loop decreases_loop
+add_at : tie.Need-overflow_add-at invariant_loop decreases_loop
 add_at c = omega arith
 
-loop_less : tie.Need-loop-smaller invariant_loop decreases_loop
+loop_less : tie.Need-loop-at-smaller-then-white invariant_loop decreases_loop
 loop_less c = omega arith
 
-loop_again : tie.Need-loop-preserved invariant_loop decreases_loop
+loop_again : tie.Need-loop-at-preserved-then-white invariant_loop decreases_loop
 loop_again c =
     let head = c.before.before.before.before in
-    let text = head.before.before.args.text.now in (
+    let text = head.args.text.now in (
       omega arith,
-      head.loop.invariant.1 ∙ blank_white text head.loop.at (omega arith) (sym c.before.white.ensures ∙ c.if1.true),
+      head.loop-at.invariant.1 ∙ blank_white text head.loop-at.at (omega arith) (sym c.white.ensures ∙ c.if-white.true),
     )
 
-returns : tie.Need-returns invariant_loop decreases_loop
+returns : tie.Need-returns-then-b-ne59 invariant_loop decreases_loop
 returns c =
     let head = c.before.before.before.before.before in
-    let text = head.before.before.args.text.now in
+    let text = head.args.text.now in
     let ends =
-    blank_ends text head.loop.at (omega arith) (sym c.before.before.white.ensures ∙ c.before.if1.false) (ne_eqb _ _ c.if2.true) in
-    record { ends = sym (head.loop.invariant.1 ∙ ends); inside = omega arith }
+    blank_ends text head.loop-at.at (omega arith) (sym c.white.ensures ∙ c.if-white.false) (ne_eqb _ _ c.if-b-ne59.true) in
+    record { ends = sym (head.loop-at.invariant.1 ∙ ends); inside = omega arith }
 
-add-comment-end : tie.Need-overflow-add-comment-end invariant_loop decreases_loop
+add-comment-end : tie.Need-overflow_add-at-in-loop-at invariant_loop decreases_loop
 add-comment-end c = omega arith
 
-comment-end-requires : tie.Need-comment-end-requires invariant_loop decreases_loop
+comment-end-requires : tie.Need-comment_end-at-requires invariant_loop decreases_loop
 comment-end-requires c κs = omega arith
 
-loop-less-2 : tie.Need-loop-smaller-2 invariant_loop decreases_loop
-loop-less-2 c = omega (arith, c.comment-end.ensures.onward, c.comment-end.ensures.inside)
+loop-less-2 : tie.Need-loop-at-smaller invariant_loop decreases_loop
+loop-less-2 c = omega (arith, c.comment_end-at.ensures.onward, c.comment_end-at.ensures.inside)
 
-loop-again-2 : tie.Need-loop-preserved-2 invariant_loop decreases_loop
+loop-again-2 : tie.Need-loop-at-preserved invariant_loop decreases_loop
 loop-again-2 c =
     let head = c.before.before.before.before.before.before in
-    let text = head.before.before.args.text.now in
+    let text = head.args.text.now in
     let else = c.before in
     let comment =
-    blank_semicolon text head.loop.at (omega arith) (sym else.before.before.white.ensures ∙ else.before.if1.false) (eq-eqb _ _ else.if2.false) in
-    (omega (arith, c.comment-end.ensures.inside), head.loop.invariant.1 ∙ comment ∙ c.comment-end.ensures.goes_on)
+    blank_semicolon text head.loop-at.at (omega arith) (sym else.white.ensures ∙ else.if-white.false) (eq-eqb _ _ else.if-b-ne59.false) in
+    (omega (arith, c.comment_end-at.ensures.inside), head.loop-at.invariant.1 ∙ comment ∙ c.comment_end-at.ensures.goes_on)
 
-returns_2 : tie.Need-returns-2 invariant_loop decreases_loop
+returns_2 : tie.Need-returns invariant_loop decreases_loop
 returns_2 c =
     let head = c.before in
-    let text = head.before.before.args.text.now in
-    let at = head.loop.at in
+    let text = head.args.text.now in
+    let at = head.loop-at.at in
     let none_left : at + blank false (drop at text) ≡ at = ap (λ l. at + blank false l) (drop_of_length-le text {i = at} (omega arith)) ∙ omega arith in
-    record { ends = sym (head.loop.invariant.1 ∙ none_left); inside = omega arith }
+    record { ends = sym (head.loop-at.invariant.1 ∙ none_left); inside = omega arith }
 
 pub blank_end_spec : {M : Type 1} → statement M
 blank_end_spec =

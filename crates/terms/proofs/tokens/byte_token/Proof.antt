@@ -10,14 +10,19 @@ use Rattle.terms.proofs.tokens.byte_token.Tie as tie
 abbrev pick : Bool → Bool → Lexeme
 pick p q = elim p [ true ↦ Lexeme.Opening | false ↦ elim q [ true ↦ Lexeme.Closing | false ↦ Lexeme.Wrong ] ]
 
-returns : tie.Need-returns
-returns c = ap (λ p. pick p (eqb c.before.args.b 41)) (sym (eq-eqb _ _ c.if1.true))
+returns : tie.Need-returns-then-b-eq40
+returns c = ap (λ p. pick p (eqb c.args.b 41)) (sym (eq-eqb _ _ c.if-b-eq40.true))
 
-returns_2 : tie.Need-returns-2
-returns_2 c = ap₂ {C = Lexeme} pick (sym (ne_eqb _ _ c.before.if1.false)) (sym (eq-eqb _ _ c.if2.true))
+returns_2 : tie.Need-returns-then-b-eq41
+returns_2 c = ap₂ {C = Lexeme} pick (sym (ne_eqb _ _ c.if-b-eq40.false)) (sym (eq-eqb _ _ c.if-b-eq41.true))
 
-returns_3 : tie.Need-returns-3
-returns_3 c = ap₂ {C = Lexeme} pick (sym (ne_eqb _ _ c.before.if1.false)) (sym (ne_eqb _ _ c.if2.false))
+returns_3 : tie.Need-returns
+returns_3 c = ap₂ {C = Lexeme} pick (sym (ne_eqb _ _ c.if-b-eq40.false)) (sym (ne_eqb _ _ c.if-b-eq41.false))
 
 pub byte_token_spec : {M : Type 1} → statement M
-byte_token_spec = tie.close (tie.spec returns returns_2 returns_3)
+byte_token_spec =
+    tie.close
+    (tie.spec
+    returns
+    returns_2
+    returns_3)

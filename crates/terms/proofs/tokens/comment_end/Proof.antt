@@ -9,64 +9,64 @@ use Rattle.terms.proofs.LexLaws.{blank_comment}
 use Rattle.terms.proofs.tokens.comment_end.Statement.{statement}
 use Rattle.terms.proofs.tokens.comment_end.Tie as tie
 
-abbrev invariant_loop : tie.invariant-loop
+abbrev invariant_loop : tie.invariant-loop-at
 invariant_loop text from at₀ at =
     (from ≤ at) × (at ≤ length text) × (from + blank true (drop from text) ≡ at + blank true (drop at text))
 
-abbrev decreases_loop : tie.decreases-loop
+abbrev decreases_loop : tie.decreases-loop-at
 decreases_loop text from at₀ at = length text - at
 
-loop_holds : tie.Need-loop-init invariant_loop decreases_loop
+loop_holds : tie.Need-loop-at-init invariant_loop decreases_loop
 loop_holds c = (omega arith, omega arith, refl)
 
-shared-slice-read-line-break : tie.Need-shared-slice-read-line-break invariant_loop decreases_loop
+shared-slice-read-line-break : tie.Need-bounds-text-at invariant_loop decreases_loop
 shared-slice-read-line-break c = omega arith
 
-line-break-requires : tie.Need-line-break-requires invariant_loop decreases_loop
+line-break-requires : tie.Need-line_break-requires invariant_loop decreases_loop
 line-break-requires c κs = tt
 
-add-result : tie.Need-overflow-add-result invariant_loop decreases_loop
+add-result : tie.Need-overflow_add-result invariant_loop decreases_loop
 add-result c = omega arith
 
-returns : tie.Need-returns invariant_loop decreases_loop
+returns : tie.Need-returns-then-line_break invariant_loop decreases_loop
 returns c =
     let head = c.before.before.before.before in
-    let text = head.before.before.args.text.now in
-    let at = head.loop.at in
+    let text = head.args.text.now in
+    let at = head.loop-at.at in
     record {
       goes_on =
-          head.loop.invariant.2
+          head.loop-at.invariant.2
           ∙ blank_comment text at (omega arith)
-          ∙ ap (λ t. at + 1 + blank (not t) (drop (at + 1) text)) (sym c.before.line-break.ensures ∙ c.if1.true);
+          ∙ ap (λ t. at + 1 + blank (not t) (drop (at + 1) text)) (sym c.line_break.ensures ∙ c.if-line_break.true);
       onward = omega arith;
       inside = omega arith;
     }
 
-add_at : tie.Need-overflow-add-at invariant_loop decreases_loop
+add_at : tie.Need-overflow_add-at invariant_loop decreases_loop
 add_at c = omega arith
 
-loop_less : tie.Need-loop-smaller invariant_loop decreases_loop
+loop_less : tie.Need-loop-at-smaller invariant_loop decreases_loop
 loop_less c = omega arith
 
-loop_again : tie.Need-loop-preserved invariant_loop decreases_loop
+loop_again : tie.Need-loop-at-preserved invariant_loop decreases_loop
 loop_again c =
     let head = c.before.before.before.before in
-    let text = head.before.before.args.text.now in
-    let at = head.loop.at in (
+    let text = head.args.text.now in
+    let at = head.loop-at.at in (
       omega arith,
       omega arith,
-      head.loop.invariant.2
+      head.loop-at.invariant.2
           ∙ blank_comment text at (omega arith)
-          ∙ ap (λ t. at + 1 + blank (not t) (drop (at + 1) text)) (sym c.before.line-break.ensures ∙ c.if1.false),
+          ∙ ap (λ t. at + 1 + blank (not t) (drop (at + 1) text)) (sym c.line_break.ensures ∙ c.if-line_break.false),
     )
 
-returns_2 : tie.Need-returns-2 invariant_loop decreases_loop
+returns_2 : tie.Need-returns invariant_loop decreases_loop
 returns_2 c =
     let head = c.before in
-    let text = head.before.before.args.text.now in
-    let none_left = drop_of_length-le text {i = head.loop.at} (omega arith) in
+    let text = head.args.text.now in
+    let none_left = drop_of_length-le text {i = head.loop-at.at} (omega arith) in
     record {
-      goes_on = head.loop.invariant.2 ∙ ap (λ l. head.loop.at + blank true l) none_left ∙ sym (ap (λ l. head.loop.at + blank false l) none_left);
+      goes_on = head.loop-at.invariant.2 ∙ ap (λ l. head.loop-at.at + blank true l) none_left ∙ sym (ap (λ l. head.loop-at.at + blank false l) none_left);
       onward = omega arith;
       inside = omega arith;
     }

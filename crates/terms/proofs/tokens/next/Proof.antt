@@ -7,66 +7,48 @@ use borrow.Author.Rules.{rules}
 use Rattle.terms.proofs.tokens.next.Statement.{statement}
 use Rattle.terms.proofs.tokens.next.Tie as tie
 
-blank-end-requires : tie.Need-blank-end-requires
-blank-end-requires c κs = search rules
-
-returns : tie.Need-returns
+returns : tie.Need-returns-then-place-text
 returns c =
     let gap = c.before in
     let s = gap.before.before in
-    ends_here s.args.text.now s.args.at _ s.requires gap.blank-end.ensures c.if1.true
+    ends_here s.args.text.now s.args.at _ s.requires gap.blank_end-place.ensures c.if-place-text.true
 
-shared-slice-read-b : tie.Need-shared-slice-read-b
-shared-slice-read-b c = search rules
+word-token-requires : tie.Need-word_token-requires
+word-token-requires c κs = (omega arith, sym c.word_byte.ensures ∙ c.if-word_byte.true)
 
-word-byte-requires : tie.Need-word-byte-requires
-word-byte-requires c κs = search rules
-
-word-token-requires : tie.Need-word-token-requires
-word-token-requires c κs = (omega arith, sym c.before.word_byte.ensures ∙ c.if2.true)
-
-returns_2 : tie.Need-returns-2
+returns_2 : tie.Need-returns-then-word_byte
 returns_2 c =
     let gap = c.before.before.before.before.before in
     let s = gap.before.before in
-    starts_here s.args.text.now s.args.at _ s.requires gap.blank-end.ensures _ (omega arith) c.word-token.ensures
+    starts_here s.args.text.now s.args.at _ s.requires gap.blank_end-place.ensures _ (omega arith) c.word_token.ensures
 
-bar-token-requires : tie.Need-bar-token-requires
-bar-token-requires c κs = search rules
-
-returns_3 : tie.Need-returns-3
+returns_3 : tie.Need-returns-then-b-eq124
 returns_3 c =
     let gap = c.before.before.before.before.before.before in
     let s = gap.before.before in
-    starts_here s.args.text.now s.args.at _ s.requires gap.blank-end.ensures _ (omega arith) c.bar-token.ensures
+    starts_here s.args.text.now s.args.at _ s.requires gap.blank_end-place.ensures _ (omega arith) c.bar_token.ensures
 
-byte-token-requires : tie.Need-byte-token-requires
-byte-token-requires c κs = search rules
-
-add-t5 : tie.Need-overflow-add-t5
-add-t5 c = search rules
-
-returns_4 : tie.Need-returns-4
+returns_4 : tie.Need-returns
 returns_4 c =
     let else = c.before in
     let word = else.before.before in
     let gap = word.before.before.before in
     let s = gap.before.before in
-    starts_here s.args.text.now s.args.at _ s.requires gap.blank-end.ensures _ (omega (arith, gap.blank-end.ensures.inside))
-    (byte_is s.args.text.now _ (omega (arith, gap.blank-end.ensures.inside)) (sym word.word_byte.ensures ∙ else.before.if2.false) else.if3.false c.byte-token.ensures)
+    starts_here s.args.text.now s.args.at _ s.requires gap.blank_end-place.ensures _ (omega (arith, gap.blank_end-place.ensures.inside))
+    (byte_is s.args.text.now _ (omega (arith, gap.blank_end-place.ensures.inside)) (sym word.word_byte.ensures ∙ else.if-word_byte.false) else.if-b-eq124.false c.byte_token.ensures)
 
 pub next_spec : {M : Type 1} → statement M
 next_spec =
     tie.close
     (tie.spec
-    blank-end-requires
+    (λ c κs. search rules)
     returns
-    shared-slice-read-b
-    word-byte-requires
+    (λ c. search rules)
+    (λ c κs. search rules)
     word-token-requires
     returns_2
-    bar-token-requires
+    (λ c κs. search rules)
     returns_3
-    byte-token-requires
-    add-t5
+    (λ c κs. search rules)
+    (λ c. search rules)
     returns_4)

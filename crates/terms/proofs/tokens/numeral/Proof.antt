@@ -9,17 +9,16 @@ use Rattle.terms.proofs.tokens.numeral.Tie as tie
 abbrev pick : Bool → Lexeme
 pick z = elim z [ true ↦ Lexeme.Nought | false ↦ Lexeme.Wrong ]
 
-slice-aggregate-same : tie.Need-slice-aggregate-same
-slice-aggregate-same c = search rules
+returns : tie.Need-returns-then-same
+returns c = ap pick (sym (sym c.same.ensures ∙ c.if-same.true))
 
-same-requires : tie.Need-same-requires
-same-requires c κs = search rules
-
-returns : tie.Need-returns
-returns c = ap pick (sym (sym c.before.same.ensures ∙ c.if1.true))
-
-returns_2 : tie.Need-returns-2
-returns_2 c = ap pick (sym (sym c.before.same.ensures ∙ c.if1.false))
+returns_2 : tie.Need-returns
+returns_2 c = ap pick (sym (sym c.same.ensures ∙ c.if-same.false))
 
 pub numeral_spec : {M : Type 1} → statement M
-numeral_spec = tie.close (tie.spec slice-aggregate-same same-requires returns returns_2)
+numeral_spec =
+    tie.close
+    (tie.spec
+    (λ c κs. search rules)
+    returns
+    returns_2)

@@ -14,27 +14,6 @@ use borrow.Author.Rules.{rules}
 use Rattle.terms.proofs.whole.put_problem.Statement.{statement}
 use Rattle.terms.proofs.whole.put_problem.Tie as tie
 
-put-front-requires : tie.Need-put-front-requires
-put-front-requires c κs = search rules
-
-add_at : tie.Need-overflow-add-at
-add_at c = search rules
-
-sub-put : tie.Need-overflow-sub-put
-sub-put c = search rules
-
-part-put-start : tie.Need-slice-bounds-put-start
-part-put-start c = search rules
-
-part-put-end : tie.Need-slice-bounds-put-end
-part-put-end c = search rules
-
-put-requires : tie.Need-put-requires
-put-requires c κs = search rules
-
-same_length : tie.Need-same-length
-same_length c = search rules
-
 returns : tie.Need-returns
 returns c =
     let fronted = c.before.before.before.before.before.before in
@@ -43,8 +22,8 @@ returns c =
     let symbols = s.args.symbols.now in
     let nodes = s.args.nodes.now in
     let head = EQP ++ two 1 ++ (length symbols ∷ []) ++ two s.args.count in
-    let all = put_more _ (head ++ symbols) old nodes _ (8 + length symbols) (length-append head symbols) fronted.put_front.ensures c.before.before.put.ensures in
-    let small = fronted.before.before.shared-slice-known2.given in
+    let all = put_more _ (head ++ symbols) old nodes _ (8 + length symbols) (length-append head symbols) fronted.put_front.ensures c.put.ensures in
+    let small = fronted.shared_slice_known-2-1.given in
     all ∙ ap (λ l. over (head ++ symbols ++ l) old) (sym (table_again nodes (λ i. omega (arith, small i)) s.args.count s.requires.2))
     ∙ ap (λ n. over (EQP ++ two 1 ++ (length symbols ∷ []) ++ two n ++ symbols ++ table_bytes (nodes_at nodes 0 s.args.count)) old)
     (sym (length_nodes_at nodes 0 s.args.count))
@@ -53,11 +32,11 @@ pub put_problem_spec : {M : Type 1} → statement M
 put_problem_spec =
     tie.close
     (tie.spec
-    put-front-requires
-    add_at
-    sub-put
-    part-put-start
-    part-put-end
-    put-requires
-    same_length
+    (λ c κs. search rules)
+    (λ c. search rules)
+    (λ c. search rules)
+    (λ c. search rules)
+    (λ c. search rules)
+    (λ c κs. search rules)
+    (λ c. search rules)
     returns)

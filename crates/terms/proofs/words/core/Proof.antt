@@ -5,14 +5,12 @@ use Rattle.terms.proofs.Rows.{rows_fit}
 use Rattle.terms.proofs.words.core.Statement.{statement}
 use Rattle.terms.proofs.words.core.Tie as tie
 
-slice-aggregate-row-of : tie.Need-slice-aggregate-row-of
-slice-aggregate-row-of c = search rules
-
-row-of-requires : tie.Need-row-of-requires
+row-of-requires : tie.Need-row_of-requires
 row-of-requires c κs = rows_fit _ 10 refl refl refl
 
-returns : tie.Need-returns
-returns c = search rules
-
 pub core_spec : {M : Type 1} → statement M
-core_spec = tie.close (tie.spec slice-aggregate-row-of row-of-requires returns)
+core_spec =
+    tie.close
+    (tie.spec
+    row-of-requires
+    (λ c. search rules))
