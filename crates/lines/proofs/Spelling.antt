@@ -22,9 +22,9 @@ fuel_enough (suc f) zero n ds hf hg = absurd (omega arith)
 fuel_enough (suc f) (suc g) n ds hf hg =
     let rest = (48 + n % 10) ∷ ds in
     let go : (b : Bool) → eqb (n / 10) 0 ≡ b → ended b rest (digits f (n / 10) rest) ≡ ended b rest (digits g (n / 10) rest) =
-    λ b. elim b [
+    λ b. elim b as (λ b. eqb (n / 10) 0 ≡ b → ended b rest (digits f (n / 10) rest) ≡ ended b rest (digits g (n / 10) rest)) [
       | true ↦ λ e. refl
-      | false ↦ λ e. fuel_enough f g (n / 10) rest (omega (arith, eqb-false)) (omega (arith, eqb-false))
+      | false ↦ λ e. let more : n / 10 ≡ 0 → ⊥ = eqb-false (n / 10) 0 e in fuel_enough f g (n / 10) rest (omega arith) (omega arith)
     ]
     in
     go (eqb (n / 10) 0) refl

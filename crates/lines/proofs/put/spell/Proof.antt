@@ -8,60 +8,60 @@ use Rattle.lines.proofs.Spelling.{Spelling, spelling_none, spelling_more, spelli
 use Rattle.lines.proofs.put.spell.Statement.{statement}
 use Rattle.lines.proofs.put.spell.Tie as tie
 
-abbrev invariant_loop : tie.invariant-loop
+abbrev invariant_loop : tie.invariant-loop-rest
 invariant_loop n digits₀ i₀ rest₀ digits i rest = (length digits ≡ 20) × Spelling n digits i rest
 
-abbrev decreases_loop : tie.decreases-loop
+abbrev decreases_loop : tie.decreases-loop-rest
 decreases_loop n digits₀ i₀ rest₀ digits i rest = rest
 
-loop_holds : tie.Need-loop-init invariant_loop decreases_loop
+loop_holds : tie.Need-loop-rest-init invariant_loop decreases_loop
 loop_holds c = (c.requires, spelling_none c.args.n c.args.digits.now c.requires (omega arith))
 
-sub-i : tie.Need-overflow-sub-i invariant_loop decreases_loop
+sub-i : tie.Need-overflow_sub-i invariant_loop decreases_loop
 sub-i c = omega arith
 
-cast-digits : tie.Need-overflow-cast-digits invariant_loop decreases_loop
+cast-digits : tie.Need-overflow_cast-digits invariant_loop decreases_loop
 cast-digits c = omega arith
 
-add-digits : tie.Need-overflow-add-digits invariant_loop decreases_loop
+add-digits : tie.Need-overflow_add-digits invariant_loop decreases_loop
 add-digits c = omega arith
 
-slice-write-digits : tie.Need-slice-write-digits invariant_loop decreases_loop
+slice-write-digits : tie.Need-bounds-digits-i invariant_loop decreases_loop
 slice-write-digits c = omega arith
 
-loop_less : tie.Need-loop-smaller invariant_loop decreases_loop
+loop_less : tie.Need-loop-rest-smaller invariant_loop decreases_loop
 loop_less c = omega arith
 
-loop_again : tie.Need-loop-preserved invariant_loop decreases_loop
+loop_again : tie.Need-loop-rest-preserved invariant_loop decreases_loop
 loop_again c =
-    let s = c.before.loop in
+    let s = c.loop-rest in
     let l = s.invariant.0 in (
       length-set s.digits (s.i - 1) (48 + s.rest % 10) ∙ l,
-      spelling_more c.before.before.args.n s.digits s.i s.rest l s.invariant.1 (omega arith),
+      spelling_more c.args.n s.digits s.i s.rest l s.invariant.1 (omega arith),
     )
 
-sub-i-2 : tie.Need-overflow-sub-i-2 invariant_loop decreases_loop
+sub-i-2 : tie.Need-overflow_sub-i-2 invariant_loop decreases_loop
 sub-i-2 c = omega arith
 
-cast-digits-2 : tie.Need-overflow-cast-digits-2 invariant_loop decreases_loop
+cast-digits-2 : tie.Need-overflow_cast-digits-2 invariant_loop decreases_loop
 cast-digits-2 c = omega arith
 
-add-digits-2 : tie.Need-overflow-add-digits-2 invariant_loop decreases_loop
+add-digits-2 : tie.Need-overflow_add-digits-2 invariant_loop decreases_loop
 add-digits-2 c = omega arith
 
-slice-write-digits-2 : tie.Need-slice-write-digits-2 invariant_loop decreases_loop
+slice-write-digits-2 : tie.Need-bounds-digits-i-2 invariant_loop decreases_loop
 slice-write-digits-2 c = omega arith
 
-same_length : tie.Need-same-length invariant_loop decreases_loop
+same_length : tie.Need-shape_of-digits invariant_loop decreases_loop
 same_length c =
-    let s = c.before.loop in
-    length-set s.digits (s.i - 1) (48 + s.rest) ∙ s.invariant.0 ∙ sym c.before.before.requires
+    let s = c.loop-rest in
+    length-set s.digits (s.i - 1) (48 + s.rest) ∙ s.invariant.0 ∙ sym c.requires
 
 returns : tie.Need-returns invariant_loop decreases_loop
 returns c =
-    let s = c.before.loop in
+    let s = c.loop-rest in
     let z = s.invariant.1 in
-    (spelling_done c.before.before.args.n s.digits s.i s.rest s.invariant.0 z (omega arith), omega arith)
+    (spelling_done c.args.n s.digits s.i s.rest s.invariant.0 z (omega arith), omega arith)
 
 pub spell_spec : {M : Type 1} → statement M
 spell_spec =

@@ -22,7 +22,7 @@ use Rattle.text.proofs.asserting.read_assert.Statement.{statement}
 use Rattle.text.proofs.asserting.read_assert.Tie as tie
 
 -- the term
-module _ (R : tie.After-read-term) where
+module _ (R : tie.After-read_term) where
   abbrev begin : tie.Start
   begin = R.before.before.before.before.before.before.before.before.before.before
 
@@ -34,56 +34,50 @@ module _ (R : tie.After-read-term) where
 
   abbrev Says : (symbols : List ℕ) → Asserting symbols → Term → Type 0
   Says symbols inside r =
-      TermSays text (name_of text begin.args.script.declared.sort) inside.commands one_formula end [] true begin.args.nodes.now begin.args.script.laying r R.read-term.last.1.1.1.1.1.1.0
+      TermSays text (name_of text begin.args.script.declared.sort) inside.commands one_formula end [] true begin.args.nodes.now begin.args.script.laying r R.read_term.new.nodes
 
-  term_says : (symbols : List ℕ) (inside : Asserting symbols) → Says symbols inside R.read-term.result
+  term_says : (symbols : List ℕ) (inside : Asserting symbols) → Says symbols inside R.read_term.result
   term_says symbols inside =
-      R.read-term.ensures.says (name_of text begin.args.script.declared.sort) inside.commands one_formula end [] begin.args.at
-      (formula_wanted inside R.before.before.before.before.before.next.result R.before.before.before.before.before.next.ensures (no_closing text R.before.before.before.before.before.next.result.lexeme R.before.before.before.before.match.keys2))
+      R.read_term.ensures.says (name_of text begin.args.script.declared.sort) inside.commands one_formula end [] begin.args.at
+      (formula_wanted inside R.next-token.result R.next-token.ensures (no_closing text R.next-token.result.lexeme R.in_default.in_default-own.keys2))
 
 -- the term is read
-module _ (c : tie.After-known-told2) where
-  abbrev call : tie.After-read-term
-  call = c.before.before.before.before.before
+module _ (c : tie.In-Read) where
+  abbrev call : tie.After-read_term
+  call = c.before.before.before
 
   abbrev behind : ℕ
-  behind = c.before.behind.given.0.0
+  behind = c.in-Read.behind
 
   abbrev asked : Asked
-  asked = c.before.behind.given.0.1.0
+  asked = c.in-Read.asked
 
-  is_read : call.read-term.result ≡ Term.Read behind asked
-  is_read = c.before.behind.given.1
+  is_read : call.read_term.result ≡ Term.Read behind asked
+  is_read = c.in-Read.is
 
-  read_sound : TermSound (text call) call.before.before.before.before.before.next.result.next (Term.Read behind asked)
-  read_sound = subst (TermSound (text call) call.before.before.before.before.before.next.result.next) is_read call.read-term.ensures.sound
+  read_sound : TermSound (text call) call.next-token.result.next (Term.Read behind asked)
+  read_sound = subst (TermSound (text call) call.next-token.result.next) is_read call.read_term.ensures.sound
 
   read_for : (symbols : List ℕ) (inside : Asserting call symbols) → Says call symbols inside (Term.Read behind asked)
   read_for symbols inside = subst (Says call symbols inside) is_read (term_says call symbols inside)
 
-  fits_now : TableFits call.read-term.last.1.1.1.1.1.1.0 asked.laying.count
-  fits_now = record { long = call.read-term.kept.1.1.1.1.1.1.0 ∙ (begin call).pre.table_fits.long; few = read_sound.3 }
+  fits_now : TableFits call.read_term.new.nodes asked.laying.count
+  fits_now = record { long = call.read_term.auto.nodes ∙ (begin call).requires.table_fits.long; few = read_sound.3 }
 
-next_requires : tie.Need-next-requires
-next_requires c κs = search rules
-
-enum_told : tie.Need-enum-told
-enum_told c = search rules
-
-returns : tie.Need-returns
+returns : tie.Need-returns-in-Closing
 returns c =
-    let s = c.before.before.before.before.before.before.before in
-    let lexed = c.before.before.next in
+    let s = c.before.before.before.before.before.before in
+    let lexed = c.next-token in
     record {
       says = λ symbols inside.
           closed_early s.args.text.now (name_of s.args.text.now s.args.script.declared.sort) inside.commands one_formula end [] s.args.at inside.reached lexed.result lexed.ensures
-          (ap (lexeme_read s.args.text.now) c.enum_told.given.1) refl;
+          (ap (lexeme_read s.args.text.now) c.in-Closing.is) refl;
     }
 
-read_term_requires : tie.Need-read-term-requires
+read_term_requires : tie.Need-read_term-requires
 read_term_requires c κs =
     let s = c.before.before.before.before.before.before.before.before.before in
-    let lexed = c.before.before.before.before.next in (
+    let lexed = c.next-token in (
       record {
         declared_sound = s.requires.declared_sound;
         token_inside = lexed.ensures.inside;
@@ -93,93 +87,65 @@ read_term_requires c κs =
       omega arith,
     )
 
-enum_known_refusal : tie.Need-enum-known-refusal
-enum_known_refusal c = search rules
-
-enum-known-behind : tie.Need-enum-known-behind
-enum-known-behind c = search rules
-
-slice-aggregate-exact : tie.Need-slice-aggregate-exact
-slice-aggregate-exact c = search rules
-
 exact-requires : tie.Need-exact-requires
-exact-requires c κs = (read_sound c.before).1
-
-enum-known-place : tie.Need-enum-known-place
-enum-known-place c = search rules
-
-enum-known-closed : tie.Need-enum-known-closed
-enum-known-closed c = search rules
+exact-requires c κs = (read_sound c.before.before).1
 
 keep-requires : tie.Need-keep-requires
 keep-requires c κs =
-    let known = c.before.before.before.before.before.before in
+    let known = c.before.before.before.before.before in
     let s = begin (call known) in
-    record { long = s.pre.long; few = s.pre.few; small = (read_sound known).2 }
+    record { long = s.requires.long; few = s.requires.few; small = (read_sound known).2 }
 
-same_length : tie.Need-same-length
-same_length c = search rules
-
-returns_2 : tie.Need-returns-2
+returns_2 : tie.Need-returns-in-Refused
 returns_2 c =
-    let R = c.before.before.before.before.before in
-    record { says = λ symbols inside. subst (Says R symbols inside) c.before.refusal.given.1 (term_says R symbols inside) }
+    let R = c.before.before.before in
+    record { says = λ symbols inside. subst (Says R symbols inside) c.in-Refused.is (term_says R symbols inside) }
 
-same_length_2 : tie.Need-same-length-2
-same_length_2 c = search rules
-
-returns_3 : tie.Need-returns-3
+returns_3 : tie.Need-returns-in-Wrong
 returns_3 c =
-    let exacts = c.before.before.before in
-    let known = exacts.before.before in
+    let exacts = c.before in
+    let known = exacts.before.before.before in
     let R = call known in
     record {
       says = λ symbols inside.
-          let (t, lexed, e, p) = subst (Exactly (text R) (behind known) closing) c.before.place.given.1 exacts.exact.ensures.0 in
+          let (t, lexed, e, p) = subst (Exactly (text R) (behind known) closing) c.in-Wrong.is exacts.exact.ensures.0 in
           subst (WrongAt (text R)) p (one_term inside (read_for known symbols inside) t lexed e);
     }
 
-same_length_3 : tie.Need-same-length-3
-same_length_3 c = search rules
-
-same_length_4 : tie.Need-same-length-4
-same_length_4 c = search rules
-
-returns_4 : tie.Need-returns-4
+returns_4 : tie.Need-returns-in-At
 returns_4 c =
     let kept = c.before.before in
     let told = kept.before.before in
-    let exacts = told.before.before.before in
-    let known = exacts.before.before in
+    let exacts = told.before in
+    let known = exacts.before.before.before in
     let R = call known in
     let s = begin R in
     record {
       says = λ symbols inside.
-          let (t, lexed, e, p) = subst (Exactly (text R) (behind known) closing) told.before.closed.given.1 exacts.exact.ensures.0 in
+          let (t, lexed, e, p) = subst (Exactly (text R) (behind known) closing) told.in-At.is exacts.exact.ensures.0 in
           let further : s.args.script.declared.command < t.next =
-          omega (arith, inside.further, R.before.before.before.before.before.next.ensures.later, (read_sound known).0, lexed.later) in
-          assert_went inside (read_for known symbols inside) t lexed e (fits_now known) further (subst (λ (k : ℕ). Keeps s.args.roots.now s.args.script (asked known) k kept.keep.result kept.keep.new.0) (sym p) kept.keep.ensures);
+          omega (arith, inside.further, R.next-token.ensures.later, (read_sound known).0, lexed.later) in
+          assert_went inside (read_for known symbols inside) t lexed e (fits_now known) further (subst (λ (k : ℕ). Keeps s.args.roots.now s.args.script (asked known) k kept.keep.result kept.keep.new.roots) (sym p) kept.keep.ensures);
     }
 
 pub read_assert_spec : {M : Type 1} → statement M
 read_assert_spec =
     tie.close
     (tie.spec
-    next_requires
-    enum_told
+    (λ c κs. search rules)
+    (λ c. search rules)
     returns
     read_term_requires
-    enum_known_refusal
-    enum-known-behind
-    slice-aggregate-exact
+    (λ c. search rules)
+    (λ c. search rules)
     exact-requires
-    enum-known-place
-    enum-known-closed
+    (λ c. search rules)
+    (λ c. search rules)
     keep-requires
-    same_length
+    (λ c. search rules)
     returns_2
-    same_length_2
+    (λ c. search rules)
     returns_3
-    same_length_3
-    same_length_4
+    (λ c. search rules)
+    (λ c. search rules)
     returns_4)

@@ -21,7 +21,7 @@ use Rattle.text.proofs.commands.read_command.Tie as tie
 -- the bracket
 module _ (c : tie.After-exact) where
   abbrev begin : tie.Start
-  begin = c.before.before.before
+  begin = c.before.before.before.before
 
   abbrev text_of : List ℕ
   text_of = begin.args.text.now
@@ -30,88 +30,73 @@ module _ (c : tie.After-exact) where
   opens sn cs r = command_opens text_of sn cs begin.args.at c.exact.result c.exact.ensures.0 r
 
 -- it has opened
-module _ (c : tie.After-known-told2) where
+module _ (c : tie.In-At) where
   abbrev exacts : tie.After-exact
-  exacts = c.before.before.before
+  exacts = c.before
 
   abbrev text : List ℕ
   text = text_of exacts
 
   abbrev opened : ℕ
-  opened = c.before.opened.given.0.0
+  opened = c.in-At.opened
 
   opened_inside : opened ≤ length text
-  opened_inside = subst (StepWithin text) c.before.opened.given.1 exacts.exact.ensures.1
+  opened_inside = subst (StepWithin text) c.in-At.is exacts.exact.ensures.1
 
   opened-later : (begin exacts).args.at ≤ opened
-  opened-later = exactly_later text opening (subst (Exactly text (begin exacts).args.at opening) c.before.opened.given.1 exacts.exact.ensures.0)
+  opened-later = exactly_later text opening (subst (Exactly text (begin exacts).args.at opening) c.in-At.is exacts.exact.ensures.0)
 
   commanding : (sn : List ℕ) (cs : List Command) → Reached text (at_command sn cs) (begin exacts).args.at → Reached text (in_command sn cs) opened
-  commanding sn cs r = subst (ReachedBy text (in_command sn cs)) c.before.opened.given.1 (opens exacts sn cs r)
+  commanding sn cs r = subst (ReachedBy text (in_command sn cs)) c.in-At.is (opens exacts sn cs r)
 
 -- the word behind it
-module _ (c : tie.After-known-told3) where
-  abbrev known : tie.After-known-told2
-  known = c.before.before.before.before
+module _ (c : tie.In-Word) where
+  abbrev known : tie.In-At
+  known = c.before.before
 
   abbrev found : Name
-  found = c.before.lexeme.given.0.0
+  found = c.in-Word.name
 
-  reads : lexeme_read (text known) c.before.before.before.next.result.lexeme ≡ some (word (name_of (text known) found))
-  reads = ap (lexeme_read (text known)) c.before.lexeme.given.1
+  reads : lexeme_read (text known) c.next-token.result.lexeme ≡ some (word (name_of (text known) found))
+  reads = ap (lexeme_read (text known)) c.in-Word.is
 
   inside : NameWithin (text known) found
   inside =
-      let lexed = c.before.before.before.next in
-      subst (LexemeFits (text known)) c.before.lexeme.given.1 (lexeme_fits (text known) (opened known) lexed.result lexed.result.lexeme lexed.ensures.fits)
+      let lexed = c.next-token in
+      subst (LexemeFits (text known)) c.in-Word.is (lexeme_fits (text known) (opened known) lexed.result lexed.result.lexeme lexed.ensures.fits)
 
-  passed : opened known < c.before.before.before.next.result.next
-  passed = let lexed = c.before.before.before.next in goes_on (text known) (opened known) lexed.result lexed.result.lexeme lexed.ensures.fits reads
+  passed : opened known < c.next-token.result.next
+  passed = let lexed = c.next-token in goes_on (text known) (opened known) lexed.result lexed.result.lexeme lexed.ensures.fits reads
 
-slice-aggregate-exact : tie.Need-slice-aggregate-exact
-slice-aggregate-exact c = search rules
-
-exact-requires : tie.Need-exact-requires
-exact-requires c κs = search rules
-
-enum-known-place : tie.Need-enum-known-place
-enum-known-place c = search rules
-
-enum-known-opened : tie.Need-enum-known-opened
-enum-known-opened c = search rules
-
-next_requires : tie.Need-next-requires
+next_requires : tie.Need-next-token-requires
 next_requires c κs = opened_inside c
 
-enum-known-lexeme : tie.Need-enum-known-lexeme
-enum-known-lexeme c = search rules
-
-returns : tie.Need-returns
+returns : tie.Need-returns-in_default
 returns c =
     let known = c.before.before in
-    let lexed = c.before.next in
+    let lexed = c.next-token in
     record {
       sound = tt;
       says = λ sn cs r.
           no_command (text known) sn cs (opened known) (commanding known sn cs r) lexed.result lexed.ensures
-          (λ name. no_word (text known) lexed.result.lexeme name c.match2.keys2);
+          (λ name. no_word (text known) lexed.result.lexeme name c.in_default.in_default-own.keys2);
     }
 
-word-command-requires : tie.Need-word-command-requires
+word-command-requires : tie.Need-word_command-requires
 word-command-requires c κs = inside c
 
-returns_2 : tie.Need-returns-2
+returns_2 : tie.Need-returns-in-Wrong
 returns_2 c =
-    let exacts = c.before.before.before in
-    record { sound = tt; says = λ sn cs r. subst (ReachedBy (text_of exacts) (in_command sn cs)) c.before.place.given.1 (opens exacts sn cs r) }
+    let exacts = c.before in
+    record { sound = tt; says = λ sn cs r. subst (ReachedBy (text_of exacts) (in_command sn cs)) c.in-Wrong.is (opens exacts sn cs r) }
 
-returns_3 : tie.Need-returns-3
+returns_3 : tie.Need-returns-in-Word
 returns_3 c =
     let word = c.before in
-    let known = word.before.before.before.before in
-    let lexed = word.before.before.before.next in
-    let at = (begin known.before.before.before).args.at in
-    subst (ReadsCommand (text known) at) (sym c.word-command.ensures)
+    let known = word.before.before in
+    let lexed = word.next-token in
+    let at = (begin known.before).args.at in
+    subst (ReadsCommand (text known) at) (sym c.word_command.ensures)
     (record {
       sound = command_sound (name_of (text known) (found word)) lexed.result.place lexed.result.next (text known) at
           (omega (arith, opened-later known, passed word)) lexed.ensures.inside;
@@ -123,12 +108,11 @@ pub read_command_spec : {M : Type 1} → statement M
 read_command_spec =
     tie.close
     (tie.spec
-    slice-aggregate-exact
-    exact-requires
-    enum-known-place
-    enum-known-opened
+    (λ c κs. search rules)
+    (λ c. search rules)
+    (λ c. search rules)
     next_requires
-    enum-known-lexeme
+    (λ c. search rules)
     returns
     word-command-requires
     returns_2

@@ -12,9 +12,9 @@ use borrow.Author.Rules.{rules}
 use Rattle.text.proofs.declaring.read_declaration.Statement.{statement}
 use Rattle.text.proofs.declaring.read_declaration.Tie as tie
 
-module _ (F : tie.After-read-function) where
+module _ (F : tie.After-read_function) where
   abbrev begin : tie.Start
-  begin = F.before.before.before.before.before.before
+  begin = F.before.before.before.before.before
 
   abbrev text : List ℕ
   text = begin.args.text.now
@@ -24,61 +24,43 @@ module _ (F : tie.After-read-function) where
       Inside in_declaring text begin.args.shelf.now begin.args.symbols.now nodes roots begin.args.script begin.args.at
 
   function_is : (nodes roots : List ℕ) (inside : Declaring nodes roots)
-      → FunctionIs text (name_of text begin.args.script.declared.sort) inside.commands F.read-function.result
+      → FunctionIs text (name_of text begin.args.script.declared.sort) inside.commands F.read_function.result
   function_is nodes roots inside =
-      F.read-function.ensures.says (name_of text begin.args.script.declared.sort) inside.commands inside.so.symbols_so inside.reached
+      F.read_function.ensures.says (name_of text begin.args.script.declared.sort) inside.commands inside.so.symbols_so inside.reached
 
 -- a function is declared
-module _ (c : tie.After-known-told2) where
-  abbrev call : tie.After-read-function
-  call = c.before.before.before
+module _ (c : tie.In-Symbol) where
+  abbrev call : tie.After-read_function
+  call = c.before
 
   abbrev found : Name
-  found = c.before.name.given.0.0
+  found = c.in-Symbol.name
 
   abbrev byte : ℕ
-  byte = c.before.name.given.0.1.0
+  byte = c.in-Symbol.byte
 
   abbrev behind : ℕ
-  behind = c.before.name.given.0.1.1.0
+  behind = c.in-Symbol.behind
 
-  is_read : call.read-function.result ≡ Function.Symbol found byte behind
-  is_read = c.before.name.given.1
+  is_read : call.read_function.result ≡ Function.Symbol found byte behind
+  is_read = c.in-Symbol.is
 
   sound : FunctionSound (text call) (begin call).args.at (Function.Symbol found byte behind)
-  sound = subst (FunctionSound (text call) (begin call).args.at) is_read call.read-function.ensures.sound
-
-read-function-requires : tie.Need-read-function-requires
-read-function-requires c κs = search rules
-
-enum-known-place : tie.Need-enum-known-place
-enum-known-place c = search rules
-
-enum-known-name : tie.Need-enum-known-name
-enum-known-name c = search rules
+  sound = subst (FunctionSound (text call) (begin call).args.at) is_read call.read_function.ensures.sound
 
 shelve-requires : tie.Need-shelve-requires
 shelve-requires c κs =
     let known = c.before.before in
     let s = begin (call known) in
-    record { symbols_long = s.pre.symbols_long; small = (sound known).1; below = omega (arith, s.pre.below, (sound known).3) }
+    record { symbols_long = s.requires.symbols_long; small = (sound known).1; below = omega (arith, s.requires.below, (sound known).3) }
 
-same_length : tie.Need-same-length
-same_length c = search rules
-
-returns : tie.Need-returns
+returns : tie.Need-returns-in-Wrong
 returns c =
-    let F = c.before.before.before in
+    let F = c.before in
     λ nodes roots inside.
-    subst (FunctionIs (text F) (name_of (text F) (begin F).args.script.declared.sort) inside.commands) c.before.place.given.1 (function_is F nodes roots inside)
+    subst (FunctionIs (text F) (name_of (text F) (begin F).args.script.declared.sort) inside.commands) c.in-Wrong.is (function_is F nodes roots inside)
 
-same_length_2 : tie.Need-same-length-2
-same_length_2 c = search rules
-
-same_length_3 : tie.Need-same-length-3
-same_length_3 c = search rules
-
-returns_2 : tie.Need-returns-2
+returns_2 : tie.Need-returns-in-Symbol
 returns_2 c =
     let kept = c.before.before.before.before in
     let known = kept.before.before.before in
@@ -98,12 +80,12 @@ pub read_declaration_spec : {M : Type 1} → statement M
 read_declaration_spec =
     tie.close
     (tie.spec
-    read-function-requires
-    enum-known-place
-    enum-known-name
+    (λ c κs. search rules)
+    (λ c. search rules)
+    (λ c. search rules)
     shelve-requires
-    same_length
+    (λ c. search rules)
     returns
-    same_length_2
-    same_length_3
+    (λ c. search rules)
+    (λ c. search rules)
     returns_2)

@@ -21,80 +21,71 @@ record Joining (nodes₀ rs : List ℕ) (asked₀ : Asked) (i₀ : ℕ) (nodes :
   whole : (r : Asked) (after : List ℕ) → Performs (joining rs i asked.number) nodes asked.laying r after
       → Performs (joining rs i₀ asked₀.number) nodes₀ asked₀.laying r after
 
-abbrev invariant_loop : tie.invariant-loop
+abbrev invariant_loop : tie.invariant-loop-i
 invariant_loop nodes₀ roots asserts asked₀ i₀ nodes asked i = Joining nodes₀ (take asserts roots) asked₀ i₀ nodes asked i
 
-abbrev decreases_loop : tie.decreases-loop
+abbrev decreases_loop : tie.decreases-loop-i
 decreases_loop nodes₀ roots asserts asked₀ i₀ nodes asked i = asserts - i
 
 ask-requires : tie.Need-ask-requires invariant_loop decreases_loop
 ask-requires c κs = let s = c.before.before.before.before in (s.requires.0, record { a_small = omega arith; b_small = omega arith; c_small = omega arith })
 
-same_length : tie.Need-same-length invariant_loop decreases_loop
-same_length c = search rules
-
-returns : tie.Need-returns invariant_loop decreases_loop
+returns : tie.Need-returns-then-asserts-eq0 invariant_loop decreases_loop
 returns c =
     let asked = c.before.before in
     let s = asked.before.before.before.before.before in
-    performs_as (none_joined s.args.roots.now s.args.asserts (omega (arith, s.requires.1, s.requires.2)) asked.before.before.if1.true) asked.ask.ensures
+    performs_as (none_joined s.args.roots.now s.args.asserts (omega (arith, s.requires.1, s.requires.2)) asked.if-asserts-eq0.true) asked.ask.ensures
 
-shared-slice-read-wide : tie.Need-shared-slice-read-wide invariant_loop decreases_loop
+shared-slice-read-wide : tie.Need-bounds-roots-0 invariant_loop decreases_loop
 shared-slice-read-wide c = let s = c.before.before.before.before in omega (arith, s.requires.1)
 
-wide-requires : tie.Need-wide-requires invariant_loop decreases_loop
-wide-requires c κs = search rules
-
-loop_holds : tie.Need-loop-init invariant_loop decreases_loop
+loop_holds : tie.Need-loop-i-init invariant_loop decreases_loop
 loop_holds c =
     let s = c.before.before.before.before.before in
     record { long = refl; few = s.requires.0.few; small = c.wide.ensures.1; whole = λ r after p. p }
 
-shared-slice-read-wide-2 : tie.Need-shared-slice-read-wide-2 invariant_loop decreases_loop
+shared-slice-read-wide-2 : tie.Need-bounds-roots-i invariant_loop decreases_loop
 shared-slice-read-wide-2 c =
     let s = c.before.before.before.before.before.before.before.before.before in
     omega (arith, s.requires.1, s.requires.2)
 
-wide-requires-2 : tie.Need-wide-requires-2 invariant_loop decreases_loop
-wide-requires-2 c κs = search rules
-
-ask-requires-2 : tie.Need-ask-requires-2 invariant_loop decreases_loop
+ask-requires-2 : tie.Need-ask-asked-requires invariant_loop decreases_loop
 ask-requires-2 c κs =
     let wide = c.before in
     let head = wide.before.before.before.before in
     let s = head.before.before.before.before.before.before in
-    let inv = head.loop.invariant in (
+    let inv = head.loop-i.invariant in (
       record { long = inv.long ∙ s.requires.0.long; few = inv.few },
-      record { a_small = inv.small; b_small = wide.wide2.ensures.1; c_small = omega arith },
+      record { a_small = inv.small; b_small = wide.wide-in-loop-i.ensures.1; c_small = omega arith },
     )
 
-add-i : tie.Need-overflow-add-i invariant_loop decreases_loop
+add-i : tie.Need-overflow_add-i invariant_loop decreases_loop
 add-i c = omega arith
 
-loop_less : tie.Need-loop-smaller invariant_loop decreases_loop
+loop_less : tie.Need-loop-i-smaller invariant_loop decreases_loop
 loop_less c = omega arith
 
-loop_again : tie.Need-loop-preserved invariant_loop decreases_loop
+loop_again : tie.Need-loop-i-preserved invariant_loop decreases_loop
 loop_again c =
     let asked = c.before.before in
     let wide = asked.before.before in
     let head = wide.before.before.before.before in
     let s = head.before.before.before.before.before.before in
-    let inv = head.loop.invariant in
-    let here = head.loop.asked.number in
+    let inv = head.loop-i.invariant in
+    let here = head.loop-i.asked.number in
     record {
-      long = c.before.nodes2.given ∙ inv.long;
-      few = asked.ask2.ensures.few;
-      small = asked.ask2.ensures.small;
+      long = c.nodes-in-loop-i-1.given ∙ inv.long;
+      few = asked.ask-asked.ensures.few;
+      small = asked.ask-asked.ensures.small;
       whole = λ r after p. inv.whole r after
-          (joins_one s.args.roots.now s.args.asserts (omega (arith, s.requires.1, s.requires.2)) head.loop.i here wide.before.before.before.loop-test.true
-          (performs_as (ap (λ (m : ℕ). ask (plain 4 here m 0)) wide.wide2.ensures.0) asked.ask2.ensures) p);
+          (joins_one s.args.roots.now s.args.asserts (omega (arith, s.requires.1, s.requires.2)) head.loop-i.i here wide.loop-i-test.true
+          (performs_as (ap (λ (m : ℕ). ask (plain 4 here m 0)) wide.wide-in-loop-i.ensures.0) asked.ask-asked.ensures) p);
     }
 
-same_length_2 : tie.Need-same-length-2 invariant_loop decreases_loop
-same_length_2 c = c.before.loop.invariant.long
+same_length_2 : tie.Need-shape_of-nodes invariant_loop decreases_loop
+same_length_2 c = c.loop-i.invariant.long
 
-returns_2 : tie.Need-returns-2 invariant_loop decreases_loop
+returns_2 : tie.Need-returns invariant_loop decreases_loop
 returns_2 c =
     let head = c.before in
     let wide = head.before in
@@ -102,11 +93,11 @@ returns_2 c =
     let roots = s.args.roots.now in
     let asserts = s.args.asserts in
     let few : asserts ≤ length roots = omega (arith, s.requires.1, s.requires.2) in
-    let asked = head.loop.asked in
-    performs_as (ap (joining (take asserts roots) 1) wide.wide.ensures.0 ∙ first_joined roots asserts few (omega (arith, wide.before.before.if1.false)))
-    (head.loop.invariant.whole asked head.loop.nodes
-    (performs_as (all_joined roots asserts few head.loop.i asked.number c.loop-test.false)
-    (stands_already asked.number asked.laying head.loop.invariant.few head.loop.invariant.small)))
+    let asked = head.loop-i.asked in
+    performs_as (ap (joining (take asserts roots) 1) wide.wide.ensures.0 ∙ first_joined roots asserts few (omega (arith, wide.if-asserts-eq0.false)))
+    (head.loop-i.invariant.whole asked head.loop-i.nodes
+    (performs_as (all_joined roots asserts few head.loop-i.i asked.number c.loop-i-test.false)
+    (stands_already asked.number asked.laying head.loop-i.invariant.few head.loop-i.invariant.small)))
 
 pub join_spec : {M : Type 1} → statement M
 join_spec =
@@ -115,13 +106,13 @@ join_spec =
     invariant_loop
     decreases_loop
     ask-requires
-    same_length
+    (λ c. search rules)
     returns
     shared-slice-read-wide
-    wide-requires
+    (λ c κs. search rules)
     loop_holds
     shared-slice-read-wide-2
-    wide-requires-2
+    (λ c κs. search rules)
     ask-requires-2
     add-i
     loop_less

@@ -6,27 +6,27 @@ use borrow.Author.Rules.{rules}
 use Rattle.text.proofs.ending.limits.Statement.{statement}
 use Rattle.text.proofs.ending.limits.Tie as tie
 
-distinct-requires : tie.Need-distinct-requires
-distinct-requires c κs = search rules
+returns : tie.Need-returns-then-distinct-gt24
+returns c = nine (nodes_of c.args.whole.now) (omega (arith, c.distinct.ensures))
 
-returns : tie.Need-returns
-returns c = nine (nodes_of c.before.before.before.args.whole.now) (omega (arith, c.before.distinct.ensures))
-
-distinct-requires-2 : tie.Need-distinct-requires-2
-distinct-requires-2 c κs = search rules
-
-returns_2 : tie.Need-returns-2
+returns_2 : tie.Need-returns-then-distinct-gt16
 returns_2 c =
     let first = c.before.before in
-    let t = nodes_of first.before.before.before.args.whole.now in
-    ten t (omega (arith, first.if1.false, first.before.distinct.ensures)) (omega (arith, c.before.distinct2.ensures))
+    let t = nodes_of first.args.whole.now in
+    ten t (omega (arith, first.if-distinct-gt24.false, first.distinct.ensures)) (omega (arith, c.distinct-2.ensures))
 
-returns_3 : tie.Need-returns-3
+returns_3 : tie.Need-returns
 returns_3 c =
     let first = c.before.before in
-    let t = nodes_of first.before.before.before.args.whole.now in
-    neither t (omega (arith, first.if1.false, first.before.distinct.ensures)) (omega (arith, c.before.distinct2.ensures))
+    let t = nodes_of first.args.whole.now in
+    neither t (omega (arith, first.if-distinct-gt24.false, first.distinct.ensures)) (omega (arith, c.distinct-2.ensures))
 
 pub limits_spec : {M : Type 1} → statement M
 limits_spec =
-    tie.close (tie.spec distinct-requires returns distinct-requires-2 returns_2 returns_3)
+    tie.close
+    (tie.spec
+    (λ c κs. search rules)
+    returns
+    (λ c κs. search rules)
+    returns_2
+    returns_3)

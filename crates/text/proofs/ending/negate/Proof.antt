@@ -9,34 +9,13 @@ use borrow.Author.Rules.{rules}
 use Rattle.text.proofs.ending.negate.Statement.{statement}
 use Rattle.text.proofs.ending.negate.Tie as tie
 
-returns : tie.Need-returns
-returns c = let s = c.before.before.before in none_negated s.args.nodes.now s.args.asked s.requires.0.few c.if1.true
+returns : tie.Need-returns-then-laying
+returns c = let s = c.before.before.before in none_negated s.args.nodes.now s.args.asked s.requires.0.few c.if-laying.true
 
-returns_2 : tie.Need-returns-2
-returns_2 c = let s = c.before.before.before.before in full_negated s.args.nodes.now s.args.asked c.if2.true
+returns_2 : tie.Need-returns-then-count-eq256
+returns_2 c = let s = c.before.before.before.before in full_negated s.args.nodes.now s.args.asked c.if-count-eq256.true
 
-mul_at : tie.Need-overflow-mul-at
-mul_at c = search rules
-
-sub-put-node : tie.Need-overflow-sub-put-node
-sub-put-node c = search rules
-
-part-put-node-start : tie.Need-slice-bounds-put-node-start
-part-put-node-start c = search rules
-
-part-put-node-end : tie.Need-slice-bounds-put-node-end
-part-put-node-end c = search rules
-
-put-node-requires : tie.Need-put-node-requires
-put-node-requires c κs = search rules
-
-add-t10 : tie.Need-overflow-add-t10
-add-t10 c = search rules
-
-same_length : tie.Need-same-length
-same_length c = search rules
-
-returns_3 : tie.Need-returns-3
+returns_3 : tie.Need-returns
 returns_3 c =
     let put = c.before.before in
     let room = put.before.before in
@@ -46,9 +25,9 @@ returns_3 c =
     let small = s.requires.1 in
     let low : Low (plain 3 asked.number 0 0) = (omega (arith, small), omega arith, omega arith) in
     let few = s.requires.0.few in
-    let there : asked.laying.count < 256 = omega (arith, few, room.if2.false) in
-    one_negated bytes asked _ there room.before.if1.false
-    (appended bytes _ asked.laying.count (plain 3 asked.number 0 0) low (omega (arith, s.requires.0.long)) put.put-node.ensures)
+    let there : asked.laying.count < 256 = omega (arith, few, room.if-count-eq256.false) in
+    one_negated bytes asked _ there room.if-laying.false
+    (appended bytes _ asked.laying.count (plain 3 asked.number 0 0) low (omega (arith, s.requires.0.long)) put.put_node.ensures)
 
 pub negate_spec : {M : Type 1} → statement M
 negate_spec =
@@ -56,11 +35,11 @@ negate_spec =
     (tie.spec
     returns
     returns_2
-    mul_at
-    sub-put-node
-    part-put-node-start
-    part-put-node-end
-    put-node-requires
-    add-t10
-    same_length
+    (λ c. search rules)
+    (λ c. search rules)
+    (λ c. search rules)
+    (λ c. search rules)
+    (λ c κs. search rules)
+    (λ c. search rules)
+    (λ c. search rules)
     returns_3)

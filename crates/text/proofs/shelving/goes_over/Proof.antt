@@ -6,11 +6,12 @@ use borrow.Author.Rules.{rules}
 use Rattle.text.proofs.shelving.goes_over.Statement.{statement}
 use Rattle.text.proofs.shelving.goes_over.Tie as tie
 
-returns : tie.Need-returns
-returns c = search rules
-
-returns_2 : tie.Need-returns-2
-returns_2 c = sym (ap (λ (b : Bool). b || leb 32 c.before.args.count) c.if1.false)
+returns_2 : tie.Need-returns-else-over
+returns_2 c = sym (ap (λ (b : Bool). b || leb 32 c.args.count) c.if-over.false)
 
 pub goes_over_spec : {M : Type 1} → statement M
-goes_over_spec = tie.close (tie.spec returns returns_2)
+goes_over_spec =
+    tie.close
+    (tie.spec
+    (λ c. search rules)
+    returns_2)
