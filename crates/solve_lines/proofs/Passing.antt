@@ -117,7 +117,7 @@ module _ (text : List ℕ) (k at number : ℕ) (s : Passed text k at number) (t 
 abbrev token_in : List ℕ → Lexeme → tokens.Token
 token_in text x = elim (lexeme_read text x) [ none ↦ wrong | some y ↦ y ]
 
-token_name : (text : List ℕ) (x : Lexeme) → name_of text (name_in x) ≡ tokens.nameOf (token_in text x)
+token_name : (text : List ℕ) (x : Lexeme) → name_of text (name_in x) ≡ tokens.name_of (token_in text x)
 token_name text Lexeme.End = refl
 token_name text Lexeme.Opening = refl
 token_name text Lexeme.Closing = refl
@@ -148,6 +148,6 @@ written_first text at t l name e b f =
     record {
       onward = fits.0;
       inside = fits.1;
-      name = ap (name_of text) e ∙ token_name text t.lexeme ∙ ap (λ (p : Placed). tokens.nameOf p.token) first;
+      name = ap (name_of text) e ∙ token_name text t.lexeme ∙ ap (λ (p : Placed). tokens.name_of p.token) first;
       bars = ap (λ (k : ℕ). eqb k 124) f ∙ ap (is_barred text) first;
     }

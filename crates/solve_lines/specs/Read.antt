@@ -30,5 +30,5 @@ first_at text at = get_or (tokens_at text at) 0 (record { token = wrong; place =
 pub record WrittenAs (text : List ℕ) (p : Placed) (r : Written) : Type 0 where
   pub onward : r.from ≤ r.to
   pub inside : r.to ≤ length text
-  pub name : between text r.from r.to ≡ tokens.nameOf p.token
+  pub name : between text r.from r.to ≡ tokens.name_of p.token
   pub bars : r.barred ≡ is_barred text p

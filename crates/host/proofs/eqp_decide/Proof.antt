@@ -5,48 +5,30 @@ use Rattle.host.proofs.Calls.{short_answer, answer_laid}
 use Rattle.host.proofs.eqp_decide.Statement.{statement}
 use Rattle.host.proofs.eqp_decide.Tie as tie
 
-returns : tie.Need-returns
+returns : tie.Need-returns-then-answer-lt32
 returns c =
-    let s = c.before.before.before.before.before.args in
+    let s = c.args in
     short_answer s.budget s.root s.problem.now s.work.now s.witness.now s.answer.now (omega arith)
 
-decide-requires : tie.Need-decide-requires
-decide-requires c κs = search rules
-
-reply-of-requires : tie.Need-reply-of-requires
-reply-of-requires c κs = search rules
-
-put-reply-requires : tie.Need-put-reply-requires
-put-reply-requires c κs = search rules
-
-same_length : tie.Need-same-length
-same_length c = search rules
-
-same_length_2 : tie.Need-same-length-2
-same_length_2 c = search rules
-
-same_length_3 : tie.Need-same-length-3
-same_length_3 c = search rules
-
-returns_2 : tie.Need-returns-2
+returns_2 : tie.Need-returns
 returns_2 c =
     let laid = c.before.before in
     let replied = laid.before in
     let decided = replied.before.before.before.before.before.before in
     let enough = decided.before.before.before in
-    let s = enough.before.before.before.before.before.args in
-    answer_laid s.budget s.root s.problem.now s.work.now s.witness.now s.answer.now enough.if1.false
-    decided.decide.ensures replied.reply-of.ensures laid.put-reply.ensures
+    let s = enough.args in
+    answer_laid s.budget s.root s.problem.now s.work.now s.witness.now s.answer.now enough.if-answer-lt32.false
+    decided.decide-decision.ensures replied.reply_of.ensures laid.put_reply.ensures
 
 pub eqp_decide_spec : {M : Type 1} → statement M
 eqp_decide_spec =
     tie.close
     (tie.spec
     returns
-    decide-requires
-    reply-of-requires
-    put-reply-requires
-    same_length
-    same_length_2
-    same_length_3
+    (λ c κs. search rules)
+    (λ c κs. search rules)
+    (λ c κs. search rules)
+    (λ c. search rules)
+    (λ c. search rules)
+    (λ c. search rules)
     returns_2)

@@ -11,54 +11,30 @@ use Rattle.host.proofs.reply_of.Tie as tie
 bytes_of : {a b : Decision} → a ≡ b → answer_bytes (decision_read b) ≡ answer_bytes (decision_read a)
 bytes_of e = ap (λ (d : Decision). answer_bytes (decision_read d)) (sym e)
 
-enum-known-decision : tie.Need-enum-known-decision
-enum-known-decision c = search rules
+returns : tie.Need-returns-in-Valid
+returns c = c.answered.ensures ∙ bytes_of c.in-Valid.is
 
-answered-requires : tie.Need-answered-requires
-answered-requires c κs = search rules
+returns_2 : tie.Need-returns-in-Falsified
+returns_2 c = c.answered-in-Falsified.ensures ∙ bytes_of c.in-Falsified.is
 
-enum-known-decision-2 : tie.Need-enum-known-decision-2
-enum-known-decision-2 c = search rules
+returns_3 : tie.Need-returns-in-Stopped
+returns_3 c = c.answered-in-Stopped.ensures ∙ bytes_of c.in-Stopped.is
 
-answered-requires-2 : tie.Need-answered-requires-2
-answered-requires-2 c κs = search rules
-
-enum-known-decision-3 : tie.Need-enum-known-decision-3
-enum-known-decision-3 c = search rules
-
-answered-requires-3 : tie.Need-answered-requires-3
-answered-requires-3 c κs = search rules
-
-enum-known-decision-4 : tie.Need-enum-known-decision-4
-enum-known-decision-4 c = search rules
-
-refusing-requires : tie.Need-refusing-requires
-refusing-requires c κs = search rules
-
-returns : tie.Need-returns
-returns c = c.answered.ensures ∙ bytes_of c.before.before.decision.given.1
-
-returns_2 : tie.Need-returns-2
-returns_2 c = c.answered2.ensures ∙ bytes_of c.before.before.decision2.given.1
-
-returns_3 : tie.Need-returns-3
-returns_3 c = c.answered3.ensures ∙ bytes_of c.before.before.decision3.given.1
-
-returns_4 : tie.Need-returns-4
-returns_4 c = c.refusing.ensures ∙ bytes_of c.before.before.decision4.given.1
+returns_4 : tie.Need-returns-in-Refused
+returns_4 c = c.refusing.ensures ∙ bytes_of c.in-Refused.is
 
 pub reply_of_spec : {M : Type 1} → statement M
 reply_of_spec =
     tie.close
     (tie.spec
-    enum-known-decision
-    answered-requires
-    enum-known-decision-2
-    answered-requires-2
-    enum-known-decision-3
-    answered-requires-3
-    enum-known-decision-4
-    refusing-requires
+    (λ c. search rules)
+    (λ c κs. search rules)
+    (λ c. search rules)
+    (λ c κs. search rules)
+    (λ c. search rules)
+    (λ c κs. search rules)
+    (λ c. search rules)
+    (λ c κs. search rules)
     returns
     returns_2
     returns_3

@@ -11,54 +11,51 @@ use Rattle.solve_lines.proofs.Passing.{Passed, passed_none, passed_end, passed_o
 use Rattle.solve_lines.proofs.names.behind_declaring.Statement.{statement}
 use Rattle.solve_lines.proofs.names.behind_declaring.Tie as tie
 
-abbrev invariant_loop : tie.invariant-loop
+abbrev invariant_loop : tie.invariant-loop-at
 invariant_loop text k at₀ number₀ at number = Passed text k at number
 
-abbrev decreases_loop : tie.decreases-loop
+abbrev decreases_loop : tie.decreases-loop-at
 decreases_loop text k at₀ number₀ at number = length text - at
 
 -- a token is there
-onward : (c : tie.At-match-keys2 invariant_loop decreases_loop)
-    → (c.before.before.loop.at < c.before.next.result.next) × (c.before.next.result.next ≤ length c.before.before.before.before.args.text.now)
+onward : (c : tie.In_default invariant_loop decreases_loop)
+    → (c.loop-at.at < c.next-token.result.next) × (c.next-token.result.next ≤ length c.args.text.now)
 onward c =
-    let t = c.before.next.result in
-    let text = c.before.before.before.before.args.text.now in (
-      goes_on text c.before.before.loop.at t t.lexeme c.before.next.ensures.fits (some_token text t.lexeme c.match.keys2).1,
-      c.before.next.ensures.inside,
+    let t = c.next-token.result in
+    let text = c.args.text.now in (
+      goes_on text c.loop-at.at t t.lexeme c.next-token.ensures.fits (some_token text t.lexeme c.in_default.in_default-own.keys2).1,
+      c.next-token.ensures.inside,
     )
 
-loop_holds : tie.Need-loop-init invariant_loop decreases_loop
+loop_holds : tie.Need-loop-at-init invariant_loop decreases_loop
 loop_holds c = passed_none _ _
 
-next_requires : tie.Need-next-requires invariant_loop decreases_loop
-next_requires c κs = c.loop.invariant.inside
+next_requires : tie.Need-next-token-requires invariant_loop decreases_loop
+next_requires c κs = c.loop-at.invariant.inside
 
-enum_told : tie.Need-enum-told invariant_loop decreases_loop
-enum_told c = search rules
+returns : tie.Need-returns-in-End invariant_loop decreases_loop
+returns c = passed_end _ _ _ _ c.loop-at.invariant c.next-token.result c.next-token.ensures c.in-End.is
 
-returns : tie.Need-returns invariant_loop decreases_loop
-returns c = passed_end _ _ _ _ c.before.before.before.loop.invariant c.before.before.next.result c.before.before.next.ensures c.enum_told.given.1
+is-declaring-requires : tie.Need-is_declaring-requires invariant_loop decreases_loop
+is-declaring-requires c κs = name_inside c.args.text.now c.loop-at.at c.next-token.result c.next-token.ensures
 
-is-declaring-requires : tie.Need-is-declaring-requires invariant_loop decreases_loop
-is-declaring-requires c κs = name_inside c.before.before.before.before.args.text.now c.before.before.loop.at c.before.next.result c.before.next.ensures
-
-loop_less : tie.Need-loop-smaller invariant_loop decreases_loop
+loop_less : tie.Need-loop-at-smaller-then-not-is_declaring invariant_loop decreases_loop
 loop_less c = omega (arith, onward c.before.before)
 
-loop_again : tie.Need-loop-preserved invariant_loop decreases_loop
-loop_again c = passed_other _ _ _ _ c.before.before.before.before.loop.invariant c.before.before.before.next.result c.before.before.before.next.ensures c.before.before.match.keys2 (sym c.before.is-declaring.ensures ∙ not-true _ c.if1.true)
+loop_again : tie.Need-loop-at-preserved-then-not-is_declaring invariant_loop decreases_loop
+loop_again c = passed_other _ _ _ _ c.loop-at.invariant c.next-token.result c.next-token.ensures c.in_default.in_default-own.keys2 (sym c.is_declaring.ensures ∙ c.if-not-is_declaring.true)
 
-returns_2 : tie.Need-returns-2 invariant_loop decreases_loop
-returns_2 c = (passed_here _ _ _ _ c.before.before.before.before.before.loop.invariant c.before.before.before.before.next.result c.before.before.before.before.next.ensures c.before.before.before.match.keys2 (sym c.before.before.is-declaring.ensures ∙ not-false _ c.before.if1.false) c.if2.true, c.before.before.before.before.next.ensures.inside)
+returns_2 : tie.Need-returns-then-number-k invariant_loop decreases_loop
+returns_2 c = (passed_here _ _ _ _ c.loop-at.invariant c.next-token.result c.next-token.ensures c.in_default.in_default-own.keys2 (sym c.is_declaring.ensures ∙ c.if-not-is_declaring.false) c.if-number-k.true, c.next-token.ensures.inside)
 
-add-number : tie.Need-overflow-add-number invariant_loop decreases_loop
-add-number c = let few = c.before.before.before.before.before.loop.invariant.few in omega arith
+add-number : tie.Need-overflow_add-number invariant_loop decreases_loop
+add-number c = let few = c.loop-at.invariant.few in omega arith
 
-loop-less-2 : tie.Need-loop-smaller-2 invariant_loop decreases_loop
+loop-less-2 : tie.Need-loop-at-smaller invariant_loop decreases_loop
 loop-less-2 c = omega (arith, onward c.before.before.before)
 
-loop-again-2 : tie.Need-loop-preserved-2 invariant_loop decreases_loop
-loop-again-2 c = passed_one _ _ _ _ c.before.before.before.before.before.loop.invariant c.before.before.before.before.next.result c.before.before.before.before.next.ensures c.before.before.before.match.keys2 (sym c.before.before.is-declaring.ensures ∙ not-false _ c.before.if1.false) c.if2.false
+loop-again-2 : tie.Need-loop-at-preserved invariant_loop decreases_loop
+loop-again-2 c = passed_one _ _ _ _ c.loop-at.invariant c.next-token.result c.next-token.ensures c.in_default.in_default-own.keys2 (sym c.is_declaring.ensures ∙ c.if-not-is_declaring.false) c.if-number-k.false
 
 pub behind_declaring_spec : {M : Type 1} → statement M
 behind_declaring_spec =
@@ -68,7 +65,7 @@ behind_declaring_spec =
     decreases_loop
     loop_holds
     next_requires
-    enum_told
+    (λ c. search rules)
     returns
     is-declaring-requires
     loop_less

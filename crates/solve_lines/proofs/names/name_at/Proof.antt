@@ -6,16 +6,15 @@ use borrow.Author.Rules.{rules}
 use Rattle.solve_lines.proofs.names.name_at.Statement.{statement}
 use Rattle.solve_lines.proofs.names.name_at.Tie as tie
 
-behind-declaring-requires : tie.Need-behind-declaring-requires
-behind-declaring-requires c κs = search rules
-
-first-name-requires : tie.Need-first-name-requires
-first-name-requires c κs = search rules
-
 returns : tie.Need-returns
 returns c =
-    let text = c.before.before.before.args.text.now in
-    subst (λ (p : Placed). WrittenAs text p c.first-name.result) c.before.behind-declaring.ensures.0 c.first-name.ensures
+    let text = c.args.text.now in
+    subst (λ (p : Placed). WrittenAs text p c.first_name.result) c.behind_declaring-at.ensures.0 c.first_name.ensures
 
 pub name_at_spec : {M : Type 1} → statement M
-name_at_spec = tie.close (tie.spec behind-declaring-requires first-name-requires returns)
+name_at_spec =
+    tie.close
+    (tie.spec
+    (λ c κs. search rules)
+    (λ c κs. search rules)
+    returns)

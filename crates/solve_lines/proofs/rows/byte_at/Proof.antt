@@ -5,14 +5,13 @@ use borrow.Author.Rules.{rules}
 use Rattle.solve_lines.proofs.rows.byte_at.Statement.{statement}
 use Rattle.solve_lines.proofs.rows.byte_at.Tie as tie
 
-shared-slice-read-result : tie.Need-shared-slice-read-result
-shared-slice-read-result c = search rules
-
-returns : tie.Need-returns
-returns c = search rules
-
-returns_2 : tie.Need-returns-2
-returns_2 c = sym (get_or-eq_default c.before.args.s.now 0 c.if1.false)
+returns_2 : tie.Need-returns-else-i-s
+returns_2 c = sym (get_or-eq_default c.args.s.now 0 c.if-i-s.false)
 
 pub byte_at_spec : {M : Type 1} → statement M
-byte_at_spec = tie.close (tie.spec shared-slice-read-result returns returns_2)
+byte_at_spec =
+    tie.close
+    (tie.spec
+    (λ c. search rules)
+    (λ c. search rules)
+    returns_2)
