@@ -12,7 +12,7 @@ use lib.Dec.{eqb}
 use borrow.Author.Tests.{eq-eqb}
 use Rattle.definitions.specs.Lists.{any}
 use Rattle.definitions.specs.Problem.Node.{Node, node}
-use Rattle.definitions.specs.Problem.Ops.{both, op_of, operand_sorts, arity, fields_of, operands_of, is_app}
+use Rattle.definitions.specs.Problem.Ops.{op_of, operand_sorts, arity, fields_of, operands_of, is_app}
 use Rattle.definitions.specs.Logic.{Value, number, truth, value_at, op_value, node_value, values}
 use Rattle.definitions.specs.Places.{assignment}
 use Rattle.theorems.proofs.Laws.Tests.{or_left, or_right}

@@ -3,11 +3,11 @@
 use mathlib.Core.Path.{◌≡◌, refl, sym, ap, ◌∙◌}
 use Prim.Native.Nat.{ℕ, ◌≤◌, ◌<◌}
 use native.Mathlib.Omega.{arith}
-use mathlib.Core.Bool.{Bool, true, false, false≢true}
+use mathlib.Core.Bool.{Bool, false, false≢true}
 use mathlib.Core.List.{List, []}
 use lib.ListN.{length}
 use borrow.Author.Tests.{lt-ltb, le-ltb}
-use Rattle.definitions.specs.Problem.Check.{Refused, refuse_if}
+use Rattle.definitions.specs.Problem.Check.{refuse_if}
 use Rattle.definitions.specs.Operations.Answers.{Answer, refused}
 use Rattle.definitions.specs.Operations.Readings.{refusal_read}
 use Rattle.definitions.specs.Operations.Promises.{ReadPromise}

@@ -13,7 +13,7 @@ use lib.Dec.{ltb}
 use borrow.Author.Tests.{lt-leb}
 use Rattle.definitions.specs.Lists.{first_of}
 use Rattle.definitions.specs.Problem.Node.{Node, no_node, table_bytes, problem_bytes}
-use Rattle.definitions.specs.Problem.Check.{nodes_of, is_term, Refused, refuse_if, layout_conditions, layout_refusal}
+use Rattle.definitions.specs.Problem.Check.{nodes_of, is_term, Refused, refuse_if}
 use Rattle.definitions.specs.Problem.Asked.{trimmed, asked, root_wrong, ask_refusal, limit_conditions, ask_conditions, refusal_of}
 use Rattle.definitions.specs.Elimination.{table_of}
 use Rattle.definitions.specs.Ranges.{tops_of}

@@ -1,6 +1,6 @@
 -- Every number fits the field that it is written in, for an accepted problem: the table in the work buffer, the nodes in eight
 -- bytes, the rows in the witness (01, 'Elimination' and 'Witness'). Assumes nothing.
-use mathlib.Core.Path.{◌≡◌, refl, sym}
+use mathlib.Core.Path.{◌≡◌, refl}
 use Prim.Native.Nat.{ℕ, zero, suc, pred, ◌+◌, ◌*◌, ◌≤◌, ◌<◌}
 use native.Mathlib.Omega.{arith}
 use mathlib.Core.Bool.{Bool, true, false, cond, false≢true}
@@ -35,7 +35,7 @@ use Rattle.definitions.specs.Problem.Ops.{
 use Rattle.definitions.specs.Problem.Check.{symbol_count, node_count, symbols_of, nodes_of, functions_in, predicates_in}
 use Rattle.definitions.specs.Logic.{Interpretation, Value, number_of, number_at, truth_at, op_value, node_value, values}
 use Rattle.definitions.specs.Elimination.{eliminated, table_of}
-use Rattle.definitions.specs.Ranges.{Variables, how_many, rank, joined, tops, tops_of, sizes, sizes_of}
+use Rattle.definitions.specs.Ranges.{Variables, how_many, rank, joined, tops, tops_of, sizes_of}
 use Rattle.definitions.specs.Places.{assignment, digits_at, values_at}
 use Rattle.definitions.specs.Witness.{app_row, rows_at}
 use Rattle.theorems.proofs.Laws.Tests.{and_left, and_right}

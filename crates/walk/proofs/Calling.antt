@@ -1,21 +1,19 @@
 -- What the walk needs at its calls: room in the arrays, branches that read only what stands before them, and where a tail begins.
 -- Assumes nothing.
 use mathlib.Core.Path.{◌≡◌, ap, ◌∙◌, subst}
-use Prim.Native.Nat.{ℕ, ◌+◌, ◌*◌, ◌-◌, ◌≤◌, ◌<◌}
+use Prim.Native.Nat.{ℕ, ◌+◌, ◌*◌, ◌≤◌, ◌<◌}
 use native.Mathlib.Nat.{mul-le-mul_left}
 use native.Mathlib.Omega.{arith}
 use mathlib.Core.Bool.{false}
 use mathlib.Core.List.{List}
 use mathlib.Core.Logic.{inl, inr}
 use lib.ListN.{length, get_or, take}
-use Rattle.definitions.specs.Places.{first}
 use Rattle.theorems.proofs.Laws.Tests.{split}
 use Rattle.ranges.specs.Table.{TableIn}
 use Rattle.ranges.specs.declared.Shape.{Shape}
-use Rattle.blocks.specs.Moves.{turning}
 use Rattle.blocks.specs.Order.{start_of}
 use Rattle.order.specs.Order.{level_in, Arranged}
-use Rattle.walk.specs.Cells.{cell, AllReady, Decoded, SlowLaid, FirstLane}
+use Rattle.walk.specs.Cells.{AllReady, Decoded, SlowLaid, FirstLane}
 use Rattle.walk.specs.Digits.{Turning, NextIs, SlowIs, PartsAre, fast_of}
 use Rattle.walk.specs.Keeping.{Setting, Walking, Begins}
 use Rattle.walk.specs.Laid.{LanesReady}
@@ -31,11 +29,7 @@ use Rattle.walk.proofs.Branching.{all_ready}
 use Rattle.walk.proofs.Carrying.{digit_in_range}
 use Rattle.walk.proofs.Solving.{place_fits}
 use Rattle.walk.proofs.Going.{sets_out, count_length}
-use Rattle.walk.proofs.Walking.{
-  count_is,
-  slow_length,
-  room,
-}
+use Rattle.walk.proofs.Walking.{count_is, slow_length}
 
 -- a digit and 1 more are a byte
 pub digits_small : (o : Odometer) → Turning o → (v : ℕ) → get_or o.digits v 0 + 1 < 256

@@ -21,7 +21,6 @@ use Rattle.theorems.proofs.Search.Places.{Positive, after_within, product_of_app
 use Rattle.theorems.specs.Searched.{AllTrue}
 use Rattle.ranges.specs.Table.{table_in}
 use Rattle.ranges.specs.declared.Shape.{Shape}
-use Rattle.blocks.specs.Moves.{turning}
 use Rattle.blocks.specs.Levels.{level_of}
 use Rattle.blocks.specs.Order.{pos_of}
 use Rattle.blocks.proofs.Blocks.{block_digits}

@@ -1,7 +1,7 @@
 -- From a script to the problem's bytes (02, E1: "The nodes are those of the terms, with longer lists paired as the standard groups
 -- them and => written as "not" and "or", then what joins the asserts and the one negation, last; equal nodes stand once").
 -- Assumes nothing.
-use Rattle.std.specs.Prelude.{ℕ, ◌+◌, List, [], ◌∷◌, ◌++◌, map, not, ◌||◌, length, get_or, ltb}
+use Rattle.std.specs.Prelude.{ℕ, ◌+◌, List, [], ◌∷◌, map, not, ◌||◌, length, get_or, ltb}
 use Rattle.std.proofs.Math.Option.{Option, none, some}
 use Rattle.definitions.specs.Lists.{snoc, first_of, first_failing}
 use Rattle.definitions.specs.Problem.Node.{Node, plain, same, problem_bytes}

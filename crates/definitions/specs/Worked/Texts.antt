@@ -1,5 +1,5 @@
 -- The texts worked by hand, each with its answer. Assumes nothing.
-use Rattle.std.specs.Prelude.{ℕ, zero, suc, ◌+◌, ◌≡◌, refl, List, [], ◌∷◌, ◌++◌, true, length}
+use Rattle.std.specs.Prelude.{ℕ, zero, suc, ◌+◌, ◌≡◌, refl, List, [], ◌∷◌, ◌++◌, length}
 use Rattle.definitions.specs.Problem.Node.{Node, plain}
 use Rattle.definitions.specs.Problem.Check.{refuse}
 use Rattle.definitions.specs.Operations.Answers.{Answer, refused, given}

@@ -1,8 +1,7 @@
 -- The problem asked: what 9 and 10 refuse, a short work buffer, or the table that is laid. Assumes nothing.
-use mathlib.Core.Path.{◌≡◌, ap, ◌∙◌}
+use mathlib.Core.Path.{ap, ◌∙◌}
 use Prim.Native.Nat.{ℕ, ◌-◌}
 use native.Mathlib.Omega.{arith}
-use mathlib.Core.List.{List}
 use lib.ListN.{get_or, length-replicate}
 use Rattle.theorems.proofs.Accepted.{Accepted}
 use Rattle.elimination.proofs.Promising.{refused_by, not_refused, is_accepted, refused_limit, refused_short, taken}

@@ -1,6 +1,6 @@
 -- Function-free tables: what it is for one to be well formed, with so many variables and truth variables. Operands are earlier
 -- nodes of the sorts asked, and variable numbers are below the counts. Assumes nothing.
-use mathlib.Core.Path.{◌≡◌, sym, subst}
+use mathlib.Core.Path.{◌≡◌, subst}
 use Prim.Native.Nat.{ℕ, ◌<◌}
 use native.Mathlib.Omega.{arith}
 use mathlib.Core.Bool.{Bool, true, ◌&&◌}

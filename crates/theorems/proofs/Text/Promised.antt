@@ -1,12 +1,10 @@
 -- What the promise of read says of its answer and of the problem buffer (02, E1). Assumes nothing.
 use mathlib.Core.Path.{◌≡◌, refl, sym, ap, ◌∙◌, subst}
 use Prim.Native.Nat.{ℕ}
-use native.Mathlib.Omega.{arith}
 use mathlib.Core.List.{List}
 use mathlib.Core.Logic.{◌↔◌}
 use lib.ListN.{length, take, drop}
 use lib.Seq.{take_at}
-use Rattle.definitions.specs.Problem.Check.{Refused}
 use Rattle.definitions.specs.Operations.Answers.{Answer, refused, given}
 use Rattle.definitions.specs.Operations.Buffers.{over}
 use Rattle.definitions.specs.Operations.Readings.{refusal_read, reading_read}

@@ -2,7 +2,6 @@
 use mathlib.Core.Path.{sym, ◌∙◌, subst}
 use Prim.Native.Nat.{ℕ, suc, ◌+◌, ◌-◌, ◌≤◌, ◌<◌}
 use native.Mathlib.Omega.{arith}
-use mathlib.Core.Logic.{⊎_elim}
 use mathlib.Core.List.{List}
 use lib.ListN.{set, length-set, length-replicate}
 use Rattle.theorems.proofs.Asked.Marks.{mark}
@@ -84,12 +83,14 @@ loop_again c =
     let Next : List ℕ → ℕ → Type 0 =
     λ nodes count. Laying s root start.args.nodes.now nodes (set l.numbers l.k l.count) count (l.k + 1)
     in (
-      elim c.if-marks-k-eq1.branch [ then-marks-k-eq1 w ↦ subst (λ (nodes : List ℕ). Next nodes c.if-marks-k-eq1.count) (sym w.nodes-is)
-          (subst (λ (n : ℕ). Next w.lay_renumbered.new.nodes n) (sym w.count-is)
-          (laying_marked p.0 l.invariant.0 h _ (marked_true (mark (reached_of s root) l.k) _ is (omega (arith, w.if-marks-k-eq1.true))) w.lay_renumbered.ensures w.lay_renumbered.auto.nodes))
- | else-marks-k-eq1 w ↦ subst (λ (nodes : List ℕ). Next nodes c.if-marks-k-eq1.count) (sym w.nodes-is)
-          (subst (λ (n : ℕ). Next l.nodes n) (sym w.count-is)
-          (laying_passed p.0 l.invariant.0 h (marked_false (mark (reached_of s root) l.k) _ is w.if-marks-k-eq1.false))) ],
+      elim c.if-marks-k-eq1.branch [
+        | then-marks-k-eq1 w ↦ subst (λ (nodes : List ℕ). Next nodes c.if-marks-k-eq1.count) (sym w.nodes-is)
+            (subst (λ (n : ℕ). Next w.lay_renumbered.new.nodes n) (sym w.count-is)
+            (laying_marked p.0 l.invariant.0 h _ (marked_true (mark (reached_of s root) l.k) _ is (omega (arith, w.if-marks-k-eq1.true))) w.lay_renumbered.ensures w.lay_renumbered.auto.nodes))
+        | else-marks-k-eq1 w ↦ subst (λ (nodes : List ℕ). Next nodes c.if-marks-k-eq1.count) (sym w.nodes-is)
+            (subst (λ (n : ℕ). Next l.nodes n) (sym w.count-is)
+            (laying_passed p.0 l.invariant.0 h (marked_false (mark (reached_of s root) l.k) _ is w.if-marks-k-eq1.false)))
+      ],
       l.invariant.1,
     )
 

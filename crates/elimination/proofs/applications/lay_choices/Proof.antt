@@ -6,7 +6,6 @@ use Prim.Native.Nat.{ℕ, ◌+◌, ◌*◌, ◌-◌, ◌≤◌, ◌<◌}
 use native.Mathlib.Omega.{arith}
 use mathlib.Core.Bool.{true}
 use mathlib.Core.List.{List}
-use mathlib.Core.Logic.{⊎_elim}
 use lib.ListN.{length, take}
 use Rattle.definitions.specs.Lists.{keep}
 use Rattle.definitions.specs.Problem.Node.{Node, node, node_at}
@@ -66,8 +65,10 @@ module _ (c : tie.After-images_of-xs invariant_loop decreases_loop) where
 choice_read : (c : tie.Joined-problem-here-eq0 invariant_loop decreases_loop) → c.if-problem-here-eq0.choice ≡ choice_op (the_node c.before.before).op
 choice_read c =
     let op_read = ap (λ (n : Node). n.op) (stands c.before.before) in
-    elim c.if-problem-here-eq0.branch [ then-problem-here-eq0 w ↦ w.choice-is ∙ ap choice_op (sym (op_read ∙ w.if-problem-here-eq0.true))
- | else-problem-here-eq0 w ↦ w.choice-is ∙ sym (choice_other _ (λ e. w.if-problem-here-eq0.false (sym op_read ∙ e))) ]
+    elim c.if-problem-here-eq0.branch [
+      | then-problem-here-eq0 w ↦ w.choice-is ∙ ap choice_op (sym (op_read ∙ w.if-problem-here-eq0.true))
+      | else-problem-here-eq0 w ↦ w.choice-is ∙ sym (choice_other _ (λ e. w.if-problem-here-eq0.false (sym op_read ∙ e)))
+    ]
 
 add_at : tie.Need-overflow_add-at invariant_loop decreases_loop
 add_at c = omega (arith, has_room c.before.before.before)

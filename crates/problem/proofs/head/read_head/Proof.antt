@@ -12,7 +12,7 @@ use lib.Dec.{eqb, ltb}
 use borrow.Author.Rules.{rules}
 use borrow.Author.Tests.{eq-eqb, ne_eqb, lt-ltb, le-ltb}
 use Rattle.definitions.specs.Bytes.{byte_at, two_at, EQP}
-use Rattle.definitions.specs.Problem.Check.{symbol_count, node_count, stands, refuse}
+use Rattle.definitions.specs.Problem.Check.{symbol_count, node_count, stands}
 use Rattle.theorems.proofs.Laws.Tests.{or_left, or_right}
 use Rattle.problem.specs.declared.head.Header.{Header}
 use Rattle.problem.specs.Shape.{Shaped}

@@ -7,7 +7,6 @@ use mathlib.Core.Bool.{Bool, true, ◌&&◌}
 use mathlib.Core.List.{List}
 use mathlib.Core.Option.{Option}
 use lib.ListN.{get_or, take}
-use borrow.Author.Tests.{not-true, not-false}
 use Rattle.definitions.specs.Bytes.{byte_at}
 use Rattle.definitions.specs.Problem.Node.{Node, node, node_at}
 use Rattle.definitions.specs.Problem.Ops.{Sort, op_of, arity, fields_of, symbol_right, node_right}

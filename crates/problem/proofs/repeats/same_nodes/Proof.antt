@@ -4,7 +4,6 @@ use mathlib.Core.Path.{◌≡◌, sym, ap₂, ◌∙◌}
 use Prim.Native.Nat.{ℕ}
 use mathlib.Core.Bool.{Bool, true}
 use lib.Dec.{eqb}
-use borrow.Author.Tests.{not-true, not-false}
 use Rattle.definitions.specs.Problem.Node.{Node, node, node_at, same}
 use Rattle.definitions.specs.Problem.Check.{nodes_of}
 use Rattle.problem.specs.Stages.{one_symbol}

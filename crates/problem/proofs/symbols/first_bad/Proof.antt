@@ -7,7 +7,6 @@ use mathlib.Core.Bool.{true, false}
 use mathlib.Core.List.{List}
 use mathlib.Core.Option.{none, some}
 use lib.ListN.{length, get_or}
-use borrow.Author.Tests.{not-true, not-false}
 use Rattle.definitions.specs.Lists.{first_failing}
 use Rattle.definitions.specs.Bytes.{byte_at}
 use Rattle.definitions.specs.Problem.Check.{symbols_of, symbol_byte_right}

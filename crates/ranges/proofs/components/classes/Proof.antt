@@ -4,7 +4,6 @@ use borrow.Author.Rules.{rules}
 use native.Mathlib.Omega.{arith}
 use mathlib.Core.Path.{◌≡◌, sym, ap, subst, ◌∙◌}
 use mathlib.Core.List.{List}
-use mathlib.Core.Logic.{⊎_elim}
 use Prim.Native.Nat.{ℕ, ◌+◌, ◌*◌, ◌≤◌, ◌<◌, ◌-◌}
 use lib.ListN.{length, get_or}
 use lib.Bits.{bit_or}
@@ -144,12 +143,14 @@ loop_less c = omega arith
 loop_again : tie.Need-loop-k-preserved invariant_loop decreases_loop
 loop_again c = (
   omega arith,
-  elim c.if-table-at-eq2.branch [ then-table-at-eq2 w ↦ subst (Next c.before) (sym w.sets-is) (
-        w.merge.auto.sets ∙ c.loop-k.invariant.1.0,
-        at_equation c.before w.if-table-at-eq2.true w.two_at-left.result w.two_at-right.result w.two_at-left.ensures.0 w.two_at-right.ensures.0 w.merge.new.sets
-            w.merge.ensures,
-      )
- | else-table-at-eq2 w ↦ subst (Next c.before) (sym w.sets-is) (c.loop-k.invariant.1.0, at_other c.before w.if-table-at-eq2.false) ],
+  elim c.if-table-at-eq2.branch [
+    | then-table-at-eq2 w ↦ subst (Next c.before) (sym w.sets-is) (
+      w.merge.auto.sets ∙ c.loop-k.invariant.1.0,
+      at_equation c.before w.if-table-at-eq2.true w.two_at-left.result w.two_at-right.result w.two_at-left.ensures.0 w.two_at-right.ensures.0 w.merge.new.sets
+          w.merge.ensures,
+    )
+    | else-table-at-eq2 w ↦ subst (Next c.before) (sym w.sets-is) (c.loop-k.invariant.1.0, at_other c.before w.if-table-at-eq2.false)
+  ],
 )
 
 returns : tie.Need-returns invariant_loop decreases_loop

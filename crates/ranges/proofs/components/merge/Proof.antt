@@ -5,7 +5,6 @@ use native.Mathlib.Omega.{arith}
 use mathlib.Core.Path.{◌≡◌, refl, sym, ap, subst, ◌∙◌}
 use mathlib.Core.Bool.{Bool, cond}
 use mathlib.Core.List.{List}
-use mathlib.Core.Logic.{⊎_elim}
 use Prim.Native.Nat.{ℕ, ◌≤◌, ◌-◌}
 use lib.ListN.{get_or}
 use Rattle.ranges.specs.Sets.{in_set}
@@ -55,10 +54,12 @@ loop_again c =
     let picks : Bool → ℕ = λ b. cond b all (start l.v) in
     let e = c.has.ensures in (
       omega arith,
-      elim c.if-has.branch [ then-has w ↦ subst (Filled done start 24 _) (sym w.sets-is)
-          (filled_set done start 24 l.sets l.v (omega arith) l.invariant.1 all (ap picks (sym w.if-has.true ∙ e)))
- | else-has w ↦ subst (Filled done start 24 _) (sym w.sets-is)
-          (filled_kept done start 24 l.sets l.v (omega arith) l.invariant.1 (ap picks (sym w.if-has.false ∙ e))) ],
+      elim c.if-has.branch [
+        | then-has w ↦ subst (Filled done start 24 _) (sym w.sets-is)
+            (filled_set done start 24 l.sets l.v (omega arith) l.invariant.1 all (ap picks (sym w.if-has.true ∙ e)))
+        | else-has w ↦ subst (Filled done start 24 _) (sym w.sets-is)
+            (filled_kept done start 24 l.sets l.v (omega arith) l.invariant.1 (ap picks (sym w.if-has.false ∙ e)))
+      ],
     )
 
 same_length : tie.Need-shape_of-sets invariant_loop decreases_loop

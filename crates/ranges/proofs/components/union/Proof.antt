@@ -2,7 +2,6 @@
 -- Assumes nothing.
 use native.Mathlib.Omega.{arith}
 use mathlib.Core.Path.{◌≡◌, sym, subst, ◌∙◌}
-use mathlib.Core.Logic.{⊎_elim}
 use Prim.Native.Nat.{ℕ, ◌≤◌, ◌-◌}
 use Rattle.ranges.specs.Sets.{UnionIs}
 use Rattle.ranges.proofs.Unions.{union_none, union_more, union_same}
@@ -40,10 +39,12 @@ loop_again c =
     let l = c.loop-v in
     let e = sym c.has.ensures in (
       omega arith,
-      elim c.if-has.branch [ then-has w ↦ subst (UnionIs a.sets.now a.these _) (sym w.all-is)
-          (union_more a.sets.now a.these l.v l.all l.invariant.1 (e ∙ w.if-has.true))
- | else-has w ↦ subst (UnionIs a.sets.now a.these _) (sym w.all-is)
-          (union_same a.sets.now a.these l.v l.all l.invariant.1 (e ∙ w.if-has.false)) ],
+      elim c.if-has.branch [
+        | then-has w ↦ subst (UnionIs a.sets.now a.these _) (sym w.all-is)
+            (union_more a.sets.now a.these l.v l.all l.invariant.1 (e ∙ w.if-has.true))
+        | else-has w ↦ subst (UnionIs a.sets.now a.these _) (sym w.all-is)
+            (union_same a.sets.now a.these l.v l.all l.invariant.1 (e ∙ w.if-has.false))
+      ],
     )
 
 returns : tie.Need-returns invariant_loop decreases_loop

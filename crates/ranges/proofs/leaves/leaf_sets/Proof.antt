@@ -3,7 +3,6 @@
 use native.Mathlib.Omega.{arith}
 use mathlib.Core.Path.{◌≡◌, refl, sym, ap, subst, ◌∙◌}
 use mathlib.Core.List.{List}
-use mathlib.Core.Logic.{⊎_elim}
 use Prim.Native.Nat.{ℕ, ◌+◌, ◌*◌, ◌^◌, ◌≤◌, ◌<◌, ◌-◌}
 use lib.ListN.{length, get_or, set}
 use lib.Bits.{bit_or}
@@ -162,11 +161,13 @@ loop_less c = omega arith
 loop_again : tie.Need-loop-k-preserved invariant_loop decreases_loop
 loop_again c = (
   omega arith,
-  elim c.if-op-eq0.branch [ then-op-eq0 w ↦ subst (Fills c.before) (sym w.sets-is)
-      (at_variable c.before w.if-op-eq0.true w.only.result (w.only.ensures ∙ ap (λ (v : ℕ). 2 ^ v) w.wide.ensures.0))
- | else-op-eq0+then-op-eq1 w ↦ subst (Fills c.before) (sym w.sets-is)
-      (at_choice c.before w.if-op-eq1.true w.two_at-left.result w.two_at-right.result w.two_at-left.ensures.0 w.two_at-right.ensures.0)
- | else-op-eq0+else-op-eq1 w ↦ subst (Fills c.before) (sym w.sets-is) (at_other c.before w.if-op-eq0.false w.if-op-eq1.false) ],
+  elim c.if-op-eq0.branch [
+    | then-op-eq0 w ↦ subst (Fills c.before) (sym w.sets-is)
+        (at_variable c.before w.if-op-eq0.true w.only.result (w.only.ensures ∙ ap (λ (v : ℕ). 2 ^ v) w.wide.ensures.0))
+    | else-op-eq0+then-op-eq1 w ↦ subst (Fills c.before) (sym w.sets-is)
+        (at_choice c.before w.if-op-eq1.true w.two_at-left.result w.two_at-right.result w.two_at-left.ensures.0 w.two_at-right.ensures.0)
+    | else-op-eq0+else-op-eq1 w ↦ subst (Fills c.before) (sym w.sets-is) (at_other c.before w.if-op-eq0.false w.if-op-eq1.false)
+  ],
 )
 
 same_length : tie.Need-shape_of-sets invariant_loop decreases_loop

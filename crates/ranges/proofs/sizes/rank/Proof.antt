@@ -2,7 +2,6 @@
 use native.Mathlib.Omega.{arith}
 use mathlib.Core.Path.{◌≡◌, refl, sym, ap, ◌∙◌}
 use mathlib.Core.Bool.{true, false}
-use mathlib.Core.Logic.{⊎_elim}
 use Prim.Native.Nat.{ℕ, suc, ◌≤◌, ◌-◌}
 use Rattle.definitions.specs.Ranges.{how_many}
 use Rattle.ranges.specs.Sets.{in_set}
@@ -41,8 +40,10 @@ loop_again c =
     let u = c.loop-u.u in
     let e = sym c.has.ensures in (
       omega arith,
-      elim c.if-has.branch [ then-has w ↦ omega (arith, how_many_next f u true (e ∙ w.if-has.true))
- | else-has w ↦ omega (arith, how_many_next f u false (e ∙ w.if-has.false)) ],
+      elim c.if-has.branch [
+        | then-has w ↦ omega (arith, how_many_next f u true (e ∙ w.if-has.true))
+        | else-has w ↦ omega (arith, how_many_next f u false (e ∙ w.if-has.false))
+      ],
     )
 
 returns : tie.Need-returns invariant_loop decreases_loop

@@ -5,7 +5,6 @@ use mathlib.Core.Path.{sym, ◌∙◌}
 use mathlib.Core.List.{List}
 use Prim.Native.Nat.{ℕ, ◌-◌, ◌≤◌, ◌<◌}
 use lib.ListN.{length, get_or}
-use borrow.Author.Tests.{not-true, not-false}
 use Rattle.solve_lines.proofs.Budgets.{Digits, budget_none, budget_long, digits_none, digit_range, digits_fit, digits_wrong, digits_more, digits_all}
 use Rattle.solve_lines.proofs.budget.budget_in.Statement.{statement}
 use Rattle.solve_lines.proofs.budget.budget_in.Tie as tie

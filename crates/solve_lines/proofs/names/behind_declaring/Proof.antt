@@ -4,7 +4,6 @@ use borrow.Author.Rules.{rules}
 use mathlib.Core.Path.{sym, ◌∙◌}
 use Prim.Native.Nat.{◌-◌, ◌≤◌, ◌<◌}
 use lib.ListN.{length}
-use borrow.Author.Tests.{not-true, not-false}
 use Rattle.terms.proofs.DeclarationLaws.{name_inside, some_token}
 use Rattle.terms.proofs.LexemeLaws.{goes_on}
 use Rattle.solve_lines.proofs.Passing.{Passed, passed_none, passed_end, passed_other, passed_here, passed_one}

@@ -3,8 +3,7 @@ use native.Mathlib.Omega.{arith}
 use borrow.Author.Rules.{rules}
 use Prim.Native.Nat.{◌-◌}
 use lib.ListN.{length}
-use mathlib.Core.Logic.{⊎_elim}
-use borrow.Author.Tests.{ltb-true, ltb-false}
+use borrow.Author.Tests.{ltb-true}
 use Rattle.solve_lines.proofs.Counting.{Counted, counted_none, counted_feed, counted_byte, counted_as, counted_place, counted_end}
 use Rattle.solve_lines.proofs.places.position_of.Statement.{statement}
 use Rattle.solve_lines.proofs.places.position_of.Lts.{then-text-at-eq10, else-text-at-eq10}
@@ -34,8 +33,10 @@ loop_less c = omega (arith, ltb-true)
 loop_again : tie.Need-loop-at-preserved invariant_loop decreases_loop
 loop_again c =
     let s = c.loop-at in
-    elim c.if-text-at-eq10.branch [ then-text-at-eq10 w ↦ counted_as _ _ _ _ _ (counted_feed _ _ _ _ _ s.invariant (omega (arith, ltb-true)) (omega (arith, ltb-true)) w.if-text-at-eq10.true) w.line-is w.column-is
- | else-text-at-eq10 w ↦ counted_as _ _ _ _ _ (counted_byte _ _ _ _ _ s.invariant (omega (arith, ltb-true)) (omega (arith, ltb-true)) w.if-text-at-eq10.false) w.line-is w.column-is ]
+    elim c.if-text-at-eq10.branch [
+      | then-text-at-eq10 w ↦ counted_as _ _ _ _ _ (counted_feed _ _ _ _ _ s.invariant (omega (arith, ltb-true)) (omega (arith, ltb-true)) w.if-text-at-eq10.true) w.line-is w.column-is
+      | else-text-at-eq10 w ↦ counted_as _ _ _ _ _ (counted_byte _ _ _ _ _ s.invariant (omega (arith, ltb-true)) (omega (arith, ltb-true)) w.if-text-at-eq10.false) w.line-is w.column-is
+    ]
 
 returns : tie.Need-returns-else-at-text invariant_loop decreases_loop
 returns c = counted_end _ _ _ _ _ c.loop-at.invariant c.if-at-text.false

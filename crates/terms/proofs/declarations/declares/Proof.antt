@@ -1,6 +1,5 @@
 -- The name of the first token is compared. Assumes nothing.
 use mathlib.Core.Path.{sym, ap, ◌∙◌, subst}
-use native.Mathlib.Omega.{arith}
 use Rattle.definitions.specs.Text.Ascii.{same_bytes}
 use Rattle.terms.specs.Lexing.{name_of, NameWithin}
 use Rattle.terms.proofs.DeclarationLaws.{first_name_lem, name_inside}

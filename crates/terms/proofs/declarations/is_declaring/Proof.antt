@@ -1,6 +1,5 @@
 -- By the lexeme, and its name. Assumes nothing.
 use mathlib.Core.Path.{sym, ap, ◌∙◌, subst}
-use native.Mathlib.Omega.{arith}
 use Rattle.definitions.specs.Text.Ascii.{ascii}
 use Rattle.definitions.specs.Text.Tokens.{word}
 use Rattle.terms.specs.Lexing.{NameWithin, lexeme_read}

@@ -4,7 +4,6 @@ use Prim.Native.Nat.{◌-◌, ◌≤◌, ◌<◌}
 use native.Mathlib.Omega.{arith}
 use borrow.Author.Rules.{rules}
 use lib.ListN.{length}
-use borrow.Author.Tests.{not-true, not-false}
 use Rattle.terms.specs.Lexing.{name_of, lexeme_read}
 use Rattle.terms.proofs.DeclarationLaws.{name_inside, some_token}
 use Rattle.terms.proofs.LexemeLaws.{goes_on}

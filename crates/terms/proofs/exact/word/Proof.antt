@@ -1,7 +1,6 @@
 -- By the token that stands there, and its name. Assumes nothing.
 use mathlib.Core.Path.{◌≡◌, refl, sym, ap, ◌∙◌, subst}
 use Prim.Native.Nat.{ℕ}
-use native.Mathlib.Omega.{arith}
 use mathlib.Core.List.{List}
 use mathlib.Core.Option.{some}
 use Rattle.definitions.specs.Text.Tokens.{word}

@@ -5,7 +5,6 @@ use native.Mathlib.Omega.{arith}
 use mathlib.Core.Bool.{true}
 use mathlib.Core.List.{List}
 use mathlib.Core.Option.{some}
-use borrow.Author.Tests.{not-true, not-false}
 use Rattle.definitions.specs.Text.Tokens.{opening, symbol}
 use Rattle.definitions.specs.Text.Grammar.{Command, symbols_in, new_function}
 use Rattle.definitions.specs.Text.Reader.{taking}

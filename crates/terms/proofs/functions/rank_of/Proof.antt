@@ -4,7 +4,6 @@ use Prim.Native.Nat.{ℕ, ◌≤◌, ◌<◌}
 use native.Mathlib.Omega.{arith}
 use mathlib.Core.Bool.{Bool}
 use mathlib.Core.List.{List}
-use mathlib.Core.Logic.{◌⊎◌, ⊎_elim}
 use lib.ListN.{length}
 use Rattle.definitions.specs.Lists.{snoc}
 use Rattle.definitions.specs.Text.Tokens.{opening, closing}
@@ -54,8 +53,10 @@ byte_is : (c : tie.Joined-formula) → (c.if-formula.byte ≡ byte_of (begin c.b
 byte_is c =
     let k = (begin c.before).args.arity in
     let few = (begin c.before).requires.2 in
-    elim c.if-formula.branch [ then-formula w ↦ (w.byte-is ∙ ap (λ (z : Bool). byte_of k (sort_is z)) (sym w.if-formula.true), omega (arith, w.byte-is))
- | else-formula w ↦ (w.byte-is ∙ ap (λ (z : Bool). byte_of k (sort_is z)) (sym w.if-formula.false), omega (arith, w.byte-is)) ]
+    elim c.if-formula.branch [
+      | then-formula w ↦ (w.byte-is ∙ ap (λ (z : Bool). byte_of k (sort_is z)) (sym w.if-formula.true), omega (arith, w.byte-is))
+      | else-formula w ↦ (w.byte-is ∙ ap (λ (z : Bool). byte_of k (sort_is z)) (sym w.if-formula.false), omega (arith, w.byte-is))
+    ]
 
 closed : (c : tie.After-exact) (cs : List Command) (name : List ℕ) → let known = c.before.before.before.before in
     Reached (text known) (in_giving (sn known) cs name (begin known).args.arity) (begin known).args.at

@@ -1,5 +1,4 @@
 -- By the byte. Assumes nothing.
-use borrow.Author.Tests.{not-true, not-false}
 use Rattle.terms.proofs.HeadedLaws.{term_byte, no_term_byte, formula_byte, no_formula_byte}
 use Rattle.terms.proofs.heads.arity_in.Statement.{statement}
 use Rattle.terms.proofs.heads.arity_in.Tie as tie

@@ -1,5 +1,4 @@
 -- By the number. Assumes nothing.
-use borrow.Author.Tests.{not-true, not-false}
 use Rattle.terms.proofs.HeadedLaws.{bare_term, bare_true, bare_false, bare_other}
 use Rattle.terms.proofs.heads.bare_core.Statement.{statement}
 use Rattle.terms.proofs.heads.bare_core.Tie as tie

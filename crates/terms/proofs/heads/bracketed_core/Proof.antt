@@ -1,7 +1,6 @@
 -- By the number. Assumes nothing.
 use mathlib.Core.Path.{◌≡◌}
 use mathlib.Core.Bool.{Bool, true}
-use borrow.Author.Tests.{not-true, not-false}
 use Rattle.terms.proofs.HeadedLaws.{choice_formula, choice_term, choice_none, bracketed_term, bracketed_not, bracketed_implies, bracketed_and, bracketed_or, bracketed_equals, no_equals, bracketed_other}
 use Rattle.terms.proofs.heads.bracketed_core.Statement.{statement}
 use Rattle.terms.proofs.heads.bracketed_core.Tie as tie

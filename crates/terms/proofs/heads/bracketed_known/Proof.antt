@@ -1,6 +1,5 @@
 -- By the symbol, its arity, and whether there are terms of the sort. Assumes nothing.
 use mathlib.Core.Path.{refl, subst}
-use borrow.Author.Tests.{not-true, not-false}
 use Rattle.terms.specs.Symbols.{sort_is, KnownSmall}
 use Rattle.terms.proofs.HeadedLaws.{bracketed_unknown, bracketed_result, bracketed_constant, bracketed_uninhabited, bracketed_arguments}
 use borrow.Author.Rules.{rules}

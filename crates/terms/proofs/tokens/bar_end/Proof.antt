@@ -3,7 +3,7 @@ use mathlib.Core.Path.{◌≡◌, sym, ap, ◌∙◌}
 use Prim.Native.Nat.{◌+◌, ◌-◌, ◌≤◌}
 use native.Mathlib.Omega.{arith}
 use lib.ListN.{length, drop}
-use borrow.Author.Tests.{eq-eqb, ne_eqb, not-true, not-false}
+use borrow.Author.Tests.{eq-eqb, ne_eqb}
 use Rattle.definitions.specs.Text.Tokens.{barred}
 use Rattle.terms.specs.Lexing.{between}
 use Rattle.terms.proofs.LexLaws.{behind, behind_none, behind_nothing, behind_more, bar_here, bar_wrong, bar_on, bar_past}

@@ -4,7 +4,6 @@ use Prim.Native.Nat.{◌+◌, ◌-◌, ◌≤◌}
 use native.Mathlib.Omega.{arith}
 use mathlib.Core.List.{◌++◌}
 use lib.ListN.{length, drop}
-use borrow.Author.Tests.{not-true, not-false}
 use Rattle.definitions.specs.Text.Tokens.{run}
 use Rattle.terms.specs.Lexing.{between}
 use Rattle.terms.proofs.LexLaws.{between_none, run_on, run_ends, run_past, passed_more, passed_all}

@@ -11,7 +11,7 @@ use lib.Dec.{ltb, leb}
 use borrow.Author.Tests.{ltb-false, lt-ltb, leb-true}
 use Rattle.definitions.specs.Lists.{snoc, first_failing, first_of}
 use Rattle.definitions.specs.Problem.Node.{Node, node, no_node, plain}
-use Rattle.definitions.specs.Problem.Ops.{Sort, term, formula, op_of, arity, symbol_right, is_function, is_predicate}
+use Rattle.definitions.specs.Problem.Ops.{Sort, term, formula, op_of, symbol_right, is_function, is_predicate}
 use Rattle.definitions.specs.Problem.Check.{nodes_of, symbol_byte_right, first_wrong, is_term, functions_in, predicates_in, refuse_if}
 use Rattle.definitions.specs.Problem.Asked.{last_node, refusal_of}
 use Rattle.theorems.proofs.Tables.Back.{nodes_read}

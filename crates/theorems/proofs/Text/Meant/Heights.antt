@@ -1,17 +1,15 @@
 -- How high a tree is: no higher than the count of nodes of the table that it is laid in. So a term that is higher than 256, more than
 -- 256 asserts, or a long => makes more than 256 nodes (02, E1: "then 01's 4"). Assumes nothing.
-use mathlib.Core.Path.{◌≡◌, ap, ap₂, ◌∙◌, subst}
+use mathlib.Core.Path.{◌≡◌, ap₂, subst}
 use Prim.Native.Nat.{ℕ, zero, suc, ◌+◌, max, ◌≤◌, ◌<◌}
 use native.Mathlib.Omega.{arith}
-use native.Mathlib.Nat.{le-max_left, le-max_right, max-le}
 use mathlib.Core.Bool.{true}
-use mathlib.Core.List.{List, [], ◌∷◌, ◌++◌}
+use mathlib.Core.List.{List, [], ◌∷◌}
 use lib.ListN.{length, take, drop, length-append}
 use Rattle.definitions.specs.Problem.Node.{Node, node, plain}
-use Rattle.definitions.specs.Problem.Ops.{operands_of}
 use Rattle.definitions.specs.Problem.Ops.{term, formula}
 use Rattle.definitions.specs.Text.Grammar.{Head, declared, ite, equals, negation, conjunction, disjunction, implication, verum, falsum, Script, new_sort, commands_right, script_right}
-use Rattle.definitions.specs.Text.Nodes.{Tree, absent, tree, operand, over3, pair, grouped, equations, head_tree, not_tree, leftward, rightward, Laid, lay, lay_all, joined, nodes_of_trees, nodes_of_script, bytes_of_script}
+use Rattle.definitions.specs.Text.Nodes.{Tree, absent, tree, operand, over3, pair, grouped, equations, head_tree, leftward, rightward, Laid, lay, lay_all, joined, nodes_of_trees, nodes_of_script, bytes_of_script}
 use Rattle.theorems.specs.Origins.{NodeOf, PartOf, itself, in-first, in-second, in-third, trees_of_script}
 use Rattle.theorems.proofs.Laws.Tests.{and_right}
 use Rattle.theorems.proofs.Laws.Ops.{AllBelow}

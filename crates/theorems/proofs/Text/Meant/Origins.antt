@@ -6,12 +6,12 @@ use native.Mathlib.Omega.{arith}
 use mathlib.Core.List.{List, [], ◌∷◌, ◌++◌, append_assoc}
 use mathlib.Core.Logic.{◌⊎◌, inl, inr}
 use mathlib.Core.Option.{Option, none, some}
-use lib.ListN.{length, get_or, take, drop, length-append, length-drop, take-append-drop, get_or-append}
-use lib.Seq.{get_or-append_seam, take-length, take-suc, drop-cons}
+use lib.ListN.{length, take, drop, length-append, length-drop, take-append-drop, get_or-append}
+use lib.Seq.{get_or-append_seam, take-suc, drop-cons}
 use Rattle.definitions.specs.Lists.{snoc}
 use Rattle.definitions.specs.Problem.Node.{Node, node, no_node, plain}
-use Rattle.definitions.specs.Text.Grammar.{Script, asserts_in}
-use Rattle.definitions.specs.Text.Nodes.{Tree, absent, tree, operand, pair, not_tree, leftward, Laid, place_of, found_or, ask, lay, lay_all, joined, assert_trees, ended, nodes_of_trees, nodes_of_script}
+use Rattle.definitions.specs.Text.Grammar.{Script}
+use Rattle.definitions.specs.Text.Nodes.{Tree, absent, tree, operand, pair, not_tree, leftward, Laid, place_of, found_or, ask, lay, lay_all, joined, nodes_of_trees, nodes_of_script}
 use Rattle.theorems.specs.Origins.{NodeOf, PartOf, itself, in-first, in-second, in-third, Origin, of_term, of_join, of_none, of_negation, trees_of_script}
 use Rattle.theorems.proofs.Laws.Tests.{clash}
 use Rattle.theorems.proofs.Text.Meant.Shared.{ask_given, last_or_before}

@@ -11,7 +11,7 @@ use lib.Dec.{leb}
 use Rattle.definitions.specs.Lists.{snoc, all}
 use Rattle.definitions.specs.Problem.Node.{Node, node, no_node, plain}
 use Rattle.definitions.specs.Problem.Ops.{Sort, term, formula, arity, same_sort}
-use Rattle.definitions.specs.Logic.{Interpretation, Value, number, truth_of, truth_at, node_value, values}
+use Rattle.definitions.specs.Logic.{Interpretation, Value, truth_of, truth_at, node_value, values}
 use Rattle.theorems.proofs.Laws.Tests.{and_left, and_right}
 use borrow.Author.Tests.{ltb-true, leb-true}
 use Rattle.theorems.proofs.Tables.Fixed.{value_fixed}

@@ -1,22 +1,20 @@
 -- The one step by which a table grows: an equal node, or one appended. It keeps every earlier node, its number is that of the
 -- node asked for, operands stay below their nodes, and no two nodes become equal (02, E1: "equal nodes stand once"). Assumes nothing.
-use mathlib.Core.Path.{◌≡◌, refl, sym, ap, ◌∙◌, subst}
+use mathlib.Core.Path.{◌≡◌, refl, sym, ap, ◌∙◌}
 use Prim.Native.Nat.{ℕ, zero, suc, ◌+◌, ◌<◌, ◌≤◌}
 use native.Mathlib.Omega.{arith}
-use mathlib.Core.Bool.{Bool, true, false, not, ◌&&◌, true≢false}
+use mathlib.Core.Bool.{Bool, true, false, not, true≢false}
 use mathlib.Core.List.{List, [], ◌∷◌, ◌++◌, append-nil}
 use mathlib.Core.Logic.{◌⊎◌, inl, inr}
 use mathlib.Core.Option.{Option, none, some}
 use lib.ListN.{length, length-append, get_or-append}
 use lib.Seq.{get_or-append_seam}
-use lib.Dec.{eqb}
-use borrow.Author.Tests.{eqb-true, eq-eqb}
 use Rattle.definitions.specs.Lists.{snoc, first_failing}
 use Rattle.definitions.specs.Problem.Node.{Node, node, no_node, same}
 use Rattle.definitions.specs.Problem.Ops.{operands_of}
 use Rattle.definitions.specs.Logic.{Interpretation, Value, number, value_at, node_value, values}
 use Rattle.theorems.specs.Origins.{NoTwins}
-use Rattle.theorems.proofs.Laws.Tests.{and_left, and_right, some_same, none≢some, split}
+use Rattle.theorems.proofs.Laws.Tests.{some_same, none≢some, split}
 use Rattle.theorems.proofs.Laws.Grown.{grown_prefix, length_grown}
 use Rattle.theorems.proofs.Laws.Ops.{AllBelow}
 use Rattle.theorems.proofs.Elimination.Repeats.{same_node, node_same}
