@@ -74,7 +74,8 @@ fn lay_reached(root: usize, problem: &[u8], header: Header, marks: &[u8], nodes:
     let mut k = 0;
     while k <= root {
         numbers[k] = count as u8;
-        if marks[k] == 1 {
+        let mark = marks[k];
+        if mark == 1 {
             lay_renumbered(problem, header, k, &numbers, nodes, count);
             count += 1;
         }

@@ -1,5 +1,5 @@
-// The calls from C: `eqp_decide` decides a named root of a problem, `eqp_read` reads one from a text, and both lay the answer down in 32 bytes, low
-// byte first.
+// The calls from C, which the static library of the crate host_c exports: `eqp_decide` decides a named root of a problem, `eqp_read`
+// reads one from a text, and both lay the answer down in 32 bytes, low byte first.
 #![tactic(auto)]
 
 ghost use Rattle.std.specs.Prelude.{◌≡◌, ◌≤◌, length};
@@ -26,8 +26,7 @@ struct Reply {
     product: u64,
 }
 
-#[unsafe(no_mangle)]
-pub extern "C" fn eqp_decide(
+pub fn eqp_decide(
     budget: u64,
     root: usize,
     problem: &[u8],
@@ -46,8 +45,7 @@ pub extern "C" fn eqp_decide(
 }
 
 // A text's problem goes to its buffer. Where the answer buffer is short, nothing is read.
-#[unsafe(no_mangle)]
-pub extern "C" fn eqp_read(text: &[u8], problem: &mut [u8], reply: &mut [u8]) -> u32
+pub fn eqp_read(text: &[u8], problem: &mut [u8], reply: &mut [u8]) -> u32
     ensures { HostReadPromise text.now problem.old reply.old result problem.new reply.new }
 {
     if reply.len() < 32 {

@@ -6,8 +6,10 @@
 
 ghost use Rattle.std.specs.Prelude.{◌≤◌, length};
 
-use libc::{STDIN_FILENO, STDOUT_FILENO};
 use problem::bytes::two_at;
+use reading::fill;
+use std::io;
+use std::io::Read;
 
 // What reading a job comes to.
 #[derive(Clone, Copy)]
@@ -15,82 +17,77 @@ enum Next {
     Answered,
     Ended,
     Cut,
-    Failed,
 }
 
-// Writes a line whole at once, and says whether it was written.
-fn write_line(text: &[u8], end: usize) -> bool
+// Writes a line whole at once.
+fn write_line(rt: &impl Print, text: &[u8], end: usize) -> io::Result<()>
     requires { end ≤ length text.now }
 {
-    io::write_all(STDOUT_FILENO, &text[..end])
+    rt.write_all(&text[..end])
 }
 
-fn write_title() -> bool {
+fn write_title(rt: &impl Print) -> io::Result<()> {
     let mut text = [0u8; 80];
     let end = lines::title_line(&mut text);
-    write_line(&text, end)
+    write_line(rt, &text, end)
 }
 
-fn write_closing(cut: bool, jobs: u64) -> bool {
+fn write_closing(rt: &impl Print, cut: bool, jobs: u64) -> io::Result<()> {
     let mut text = [0u8; 80];
     let end = lines::closing_line(&mut text, cut, jobs);
-    write_line(&text, end)
+    write_line(rt, &text, end)
 }
 
 // Decides job k and writes its line.
-fn answer(k: u64, budget: u64, problem: &[u8]) -> bool {
+fn answer(rt: &impl Print, k: u64, budget: u64, problem: &[u8]) -> io::Result<()> {
     let mut work = [0u8; 21056];
     let mut witness = [0u8; 206];
     let mut text = [0u8; 80];
     let end = lines::job_line(&mut text, k, budget, problem, &mut work, &mut witness);
-    write_line(&text, end)
+    write_line(rt, &text, end)
 }
 
 // The rest of job k: its problem bytes fill the lent slice.
-fn read_problem(k: u64, budget: u64, problem: &mut [u8]) -> Next {
-    if io::read_full(STDIN_FILENO, problem) < problem.len() {
-        return Next::Cut;
+fn read_problem<R: Read>(
+    rt: &impl Print,
+    input: &mut R,
+    k: u64,
+    budget: u64,
+    problem: &mut [u8],
+) -> io::Result<Next> {
+    if fill(input, problem) < problem.len() {
+        return Ok(Next::Cut);
     }
-    if answer(k, budget, problem) {
-        return Next::Answered;
-    }
-    Next::Failed
+    answer(rt, k, budget, problem)?;
+    Ok(Next::Answered)
 }
 
 // Reads job k and answers it. No byte past the job is waited for.
-fn one_job(k: u64) -> Next {
+fn one_job<R: Read>(rt: &impl Print, input: &mut R, k: u64) -> io::Result<Next> {
     let mut head = [0u8; 10];
-    let got = io::read_full(STDIN_FILENO, &mut head);
+    let got = fill(input, &mut head);
     if got == 0 {
-        return Next::Ended;
+        return Ok(Next::Ended);
     }
     if got < 10 {
-        return Next::Cut;
+        return Ok(Next::Cut);
     }
     let budget = lines::budget_of(&head);
     let length = two_at(&head, 8);
-    let mut room = io::large_buffer();
-    read_problem(k, budget, &mut room[..length])
+    let mut room = [0u8; 65536];
+    read_problem(rt, input, k, budget, &mut room[..length])
 }
 
 // Jobs are numbered from 1. A loop has to end, and nothing says that the input does: no run reads so many jobs.
-fn main() {
-    if !write_title() {
-        return;
-    }
-    let mut jobs: u64 = 0;
-    while jobs < u64::MAX {
-        match one_job(jobs + 1) {
-            Next::Answered => jobs += 1,
-            Next::Ended => {
-                write_closing(false, jobs);
-                return;
-            }
-            Next::Cut => {
-                write_closing(true, jobs);
-                return;
-            }
-            Next::Failed => return,
+fn main(rt: HostRuntime) -> io::Result<()> {
+    write_title(&rt)?;
+    let mut input = rt.reader();
+    for jobs in 0..u64::MAX {
+        match one_job(&rt, &mut input, jobs + 1)? {
+            Next::Answered => {}
+            Next::Ended => return write_closing(&rt, false, jobs),
+            Next::Cut => return write_closing(&rt, true, jobs),
         }
     }
+    Ok(())
 }

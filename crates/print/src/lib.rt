@@ -2,39 +2,39 @@
 #![tactic(auto)]
 
 use definitions::{Refusal, number_of, place_of};
-use libc::STDOUT_FILENO;
+use std::io;
 
-pub fn text(words: &[u8]) {
-    io::write_all(STDOUT_FILENO, words);
+pub fn text(rt: &impl Print, words: &[u8]) -> io::Result<()> {
+    rt.write_all(words)
 }
 
 // A number after the word that says what it is.
-pub fn labelled(label: &[u8], number: u64) {
-    text(label);
-    io::print_decimal(STDOUT_FILENO, number);
+pub fn labelled(rt: &impl Print, label: &[u8], number: u64) -> io::Result<()> {
+    text(rt, label)?;
+    print!(rt; "{number}")
 }
 
 // A line begins with the operation and the case.
-pub fn head(operation: &[u8], name: &[u8]) {
-    text(operation);
-    text(name);
+pub fn head(rt: &impl Print, operation: &[u8], name: &[u8]) -> io::Result<()> {
+    text(rt, operation)?;
+    text(rt, name)
 }
 
-pub fn end() {
-    text(b"\n");
+pub fn end(rt: &impl Print) -> io::Result<()> {
+    text(rt, b"\n")
 }
 
 // Bytes in hexadecimal, to the end of the line.
-pub fn bytes(all: &[u8]) {
-    text(b":");
-    spaced(all, Base::Sixteen);
-    end();
+pub fn bytes(rt: &impl Print, all: &[u8]) -> io::Result<()> {
+    text(rt, b":")?;
+    spaced(rt, all, Base::Sixteen)?;
+    end(rt)
 }
 
 // Small numbers in decimal, after the word that says what they are.
-pub fn numbers(label: &[u8], all: &[u8]) {
-    text(label);
-    spaced(all, Base::Ten);
+pub fn numbers(rt: &impl Print, label: &[u8], all: &[u8]) -> io::Result<()> {
+    text(rt, label)?;
+    spaced(rt, all, Base::Ten)
 }
 
 #[derive(Clone, Copy)]
@@ -43,29 +43,23 @@ enum Base {
     Sixteen,
 }
 
-fn spaced(all: &[u8], base: Base) {
-    let mut i = 0;
-    while i < all.len() {
-        one(all[i], base);
-        i += 1;
+fn spaced(rt: &impl Print, all: &[u8], base: Base) -> io::Result<()> {
+    for value in all {
+        one(rt, *value, base)?;
     }
+    Ok(())
 }
 
-fn one(value: u8, base: Base) {
-    text(b" ");
+fn one(rt: &impl Print, value: u8, base: Base) -> io::Result<()> {
     match base {
-        Base::Ten => {
-            io::print_decimal(STDOUT_FILENO, value as u64);
-        }
-        Base::Sixteen => {
-            io::print_hex(STDOUT_FILENO, value as u64, 2);
-        }
+        Base::Ten => print!(rt; " {value}"),
+        Base::Sixteen => print!(rt; " {value:02x}"),
     }
 }
 
 // A refusal's line ends with its number and its place.
-pub fn refusal(refused: Refusal) {
-    labelled(b": refused ", number_of(refused) as u64);
-    labelled(b" ", place_of(refused) as u64);
-    end();
+pub fn refusal(rt: &impl Print, refused: Refusal) -> io::Result<()> {
+    labelled(rt, b": refused ", number_of(refused) as u64)?;
+    labelled(rt, b" ", place_of(refused) as u64)?;
+    end(rt)
 }

@@ -8,25 +8,29 @@ ghost use Rattle.std.specs.Prelude.{◌≤◌, length};
 
 use decision::decide;
 use definitions::{Decision, Reading};
-use libc::{ENAMETOOLONG, STDIN_FILENO, STDOUT_FILENO};
 use problem::bytes::wide;
 use problem::head::last_node;
+use reading::fill;
 use solve_lines::budget::{Budget, budget_in};
 use solve_lines::errors::error_line;
 use solve_lines::names::name_at;
 use solve_lines::rows::{Row, byte_at, row_at, row_end, row_start};
 use solve_lines::{answer_lines, budget_line, too_long_line};
+use std::env::{Env, FillError};
+use std::io::Read;
+use std::rt::Files;
+use std::{fs, io, str};
 use text::read;
 
-// Writes the first bytes of a line, and says whether they were written.
-fn write_line(line: &[u8], end: usize) -> bool
+// Writes the first bytes of a line.
+fn write_line(rt: &impl Print, line: &[u8], end: usize) -> io::Result<()>
     requires { end ≤ length line.now }
 {
-    io::write_all(STDOUT_FILENO, &line[..end])
+    rt.write_all(&line[..end])
 }
 
 // The line of a row: the name comes straight from the text.
-fn write_row(text: &[u8], problem: &[u8], row: Row) -> bool {
+fn write_row(rt: &impl Print, text: &[u8], problem: &[u8], row: Row) -> io::Result<()> {
     let mut line = [0u8; 256];
     let symbol = wide(row.symbol);
     let name = name_at(text, symbol);
@@ -34,71 +38,62 @@ fn write_row(text: &[u8], problem: &[u8], row: Row) -> bool {
     let to = name.to;
     let byte = byte_at(problem, 8 + symbol);
     let start = row_start(&mut line, name.barred);
-    if !write_line(&line, start) {
-        return false;
-    }
-    if !io::write_all(STDOUT_FILENO, &text[from..to]) {
-        return false;
-    }
+    write_line(rt, &line, start)?;
+    rt.write_all(&text[from..to])?;
     let end = row_end(&mut line, name.barred, byte, row);
-    write_line(&line, end)
+    write_line(rt, &line, end)
 }
 
 // The tables that a witness lists.
-fn write_tables(text: &[u8], problem: &[u8], witness: &[u8]) {
-    let rows = byte_at(witness, 5);
-    let mut k = 0;
-    while k < rows {
-        if !write_row(text, problem, row_at(witness, k)) {
-            return;
-        }
-        k += 1;
+fn write_tables(rt: &impl Print, text: &[u8], problem: &[u8], witness: &[u8]) -> io::Result<()> {
+    for k in 0..byte_at(witness, 5) {
+        write_row(rt, text, problem, row_at(witness, k))?;
     }
+    Ok(())
 }
 
 // Decides the last node of the problem of a text.
-fn answer(budget: u64, text: &[u8], problem: &[u8]) {
+fn answer(rt: &impl Print, budget: u64, text: &[u8], problem: &[u8]) -> io::Result<()> {
     let mut work = [0u8; 21056];
     let mut witness = [0u8; 206];
     let mut line = [0u8; 256];
     let answer = decide(budget, last_node(problem), problem, &mut work, &mut witness);
     let end = answer_lines(&mut line, text, answer);
-    if !write_line(&line, end) {
-        return;
-    }
+    write_line(rt, &line, end)?;
     if let Decision::Falsified {
         tried: _,
         product: _,
         written: _,
     } = answer
     {
-        write_tables(text, problem, &witness);
+        write_tables(rt, text, problem, &witness)?;
     }
+    Ok(())
 }
 
 // Reads a text, and decides its problem.
-fn solve_text(budget: u64, text: &[u8]) {
+fn solve_text(rt: &impl Print, budget: u64, text: &[u8]) -> io::Result<()> {
     let mut problem = [0u8; 2088];
     match read(text, &mut problem) {
-        Reading::Problem { written } => answer(budget, text, &problem[..written]),
+        Reading::Problem { written } => answer(rt, budget, text, &problem[..written]),
         Reading::Refused(refusal) => {
             let mut line = [0u8; 256];
             let end = error_line(&mut line, text, refusal);
-            write_line(&line, end);
+            write_line(rt, &line, end)
         }
     }
 }
 
-fn write_too_long() {
+fn write_too_long(rt: &impl Print) -> io::Result<()> {
     let mut line = [0u8; 256];
     let end = too_long_line(&mut line);
-    write_line(&line, end);
+    write_line(rt, &line, end)
 }
 
-fn write_bad_budget() {
+fn write_bad_budget(rt: &impl Print) -> io::Result<()> {
     let mut line = [0u8; 256];
     let end = budget_line(&mut line);
-    write_line(&line, end);
+    write_line(rt, &line, end)
 }
 
 // Room for 1 MiB, and for one byte more, which tells a longer text. A function of its own, so that no proof writes it out.
@@ -107,47 +102,45 @@ fn large_room() -> [u8; 1048577] {
 }
 
 // A text of up to 1 MiB.
-fn solve_from(budget: u64, fd: i32) {
+fn solve_from<R: Read>(rt: &impl Print, budget: u64, input: &mut R) -> io::Result<()> {
     let mut room = large_room();
-    let got = io::read_full(fd, &mut room);
+    let got = fill(input, &mut room);
     if got == 1048577 {
-        write_too_long();
-        return;
+        return write_too_long(rt);
     }
-    solve_text(budget, &room[..got]);
+    solve_text(rt, budget, &room[..got])
 }
 
 // The second argument.
-fn budget() -> Budget {
+fn budget(rt: &impl Env) -> Budget {
     let mut argument = [0u8; 32];
-    let got = os::arg(2, &mut argument);
-    if os::errno() == ENAMETOOLONG {
-        return Budget::Wrong;
+    match rt.arg(2, &mut argument) {
+        Ok(got) => budget_in(&argument[..got]),
+        Err(FillError::TooLong) => Budget::Wrong,
+        Err(FillError::NotPresent) => budget_in(&[]),
     }
-    budget_in(&argument[..got])
+}
+
+// The text of a file. One that cannot be opened is told on standard error.
+fn solve_file(rt: &(impl Files + Print + Eprint), budget: u64, path: &[u8]) -> io::Result<()> {
+    let Ok(name) = str::from_utf8(path) else {
+        return rt.eprintln("the file's name is not UTF-8");
+    };
+    match fs::open(rt, name) {
+        Ok(mut file) => solve_from(rt, budget, &mut file),
+        Err(error) => eprintln!(rt; "{name}: {error}"),
+    }
 }
 
 // The file that the first argument names, or standard input.
-fn input() -> i32 {
-    if os::arg_count() < 2 {
-        return STDIN_FILENO;
-    }
-    let mut path = io::buffer();
-    let got = os::arg(1, &mut path);
-    let fd = os::open_read(&path[..got]);
-    if fd < 0 {
-        os::fail(&path[..got]);
-    }
-    fd
-}
-
-fn main() {
-    let Budget::Places(places) = budget() else {
-        write_bad_budget();
-        return;
+fn main(rt: HostRuntime) -> io::Result<()> {
+    let Budget::Places(places) = budget(&rt) else {
+        return write_bad_budget(&rt);
     };
-    let fd = input();
-    if fd >= 0 {
-        solve_from(places, fd);
+    let mut path = [0u8; 4096];
+    match rt.arg(1, &mut path) {
+        Ok(got) => solve_file(&rt, places, &path[..got]),
+        Err(FillError::TooLong) => solve_file(&rt, places, &[]),
+        Err(FillError::NotPresent) => solve_from(&rt, places, &mut rt.reader()),
     }
 }

@@ -143,10 +143,8 @@ impl Draft {
     // One symbol or node for each number from a first one up to an end.
     pub fn run(self, each: Each, from: u8, end: u8) -> Draft {
         let mut all = self;
-        let mut k = from;
-        while k < end {
+        for k in from..end {
             all = all.one(each, k);
-            k += 1;
         }
         all
     }

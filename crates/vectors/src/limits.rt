@@ -5,75 +5,87 @@ ghost use Rattle.std.specs.Prelude.{◌<◌, ◌≤◌};
 use crate::answers::check;
 use crate::draft::{Draft, Each};
 use crate::{answers, rows};
+use std::io;
 
-pub fn counts() {
+pub fn counts(rt: &impl Print) -> io::Result<()> {
     check(
+        rt,
         b"32 symbols",
         Draft::new().run(Each::Symbol(0), 0, 32).yes(),
-    );
+    )?;
     check(
+        rt,
         b"33 symbols",
         Draft::new().run(Each::Symbol(0), 0, 33).yes(),
-    );
-    check(b"no node", Draft::new());
-    check(b"256 nodes", Draft::new().run(Each::Yes, 0, 255).yes());
+    )?;
+    check(rt, b"no node", Draft::new())?;
+    check(rt, b"256 nodes", Draft::new().run(Each::Yes, 0, 255).yes())?;
     check(
+        rt,
         b"257 nodes",
         Draft::new().run(Each::Yes, 0, 255).yes().yes(),
-    );
+    )
 }
 
-pub fn applications() {
-    measure(b"24 variables", variables(24));
+pub fn applications(rt: &impl Print) -> io::Result<()> {
+    measure(rt, b"24 variables", variables(24))?;
     measure(
+        rt,
         b"24 variables and a repeat",
         variables(24)
             .variable(0)
             .equation(0, 71)
             .disjunction(70, 72),
-    );
-    measure(b"25 variables", variables(25));
-    measure(b"16 predicates", predicates(16));
+    )?;
+    measure(rt, b"25 variables", variables(25))?;
+    measure(rt, b"16 predicates", predicates(16))?;
     measure(
+        rt,
         b"16 predicates and a repeat",
         predicates(16).truth_variable(0).disjunction(30, 31),
-    );
-    measure(b"17 predicates", predicates(17));
-    measure(b"25 variables and 17 predicates", too_many());
-    measure(b"largest table", largest());
+    )?;
+    measure(rt, b"17 predicates", predicates(17))?;
+    measure(rt, b"25 variables and 17 predicates", too_many())?;
+    measure(rt, b"largest table", largest())
 }
 
-pub fn work_buffer() {
+pub fn work_buffer(rt: &impl Print) -> io::Result<()> {
     let mut short = [255u8; 21055];
     let mut whole = [255u8; 21056];
-    lend(b"row 2 in 21055 bytes", rows::row_2(), &mut short);
-    lend(b"row 2 in 21056 bytes", rows::row_2(), &mut whole);
-    lend(b"17 predicates in 21055 bytes", predicates(17), &mut short);
+    lend(rt, b"row 2 in 21055 bytes", rows::row_2(), &mut short)?;
+    lend(rt, b"row 2 in 21056 bytes", rows::row_2(), &mut whole)?;
     lend(
+        rt,
+        b"17 predicates in 21055 bytes",
+        predicates(17),
+        &mut short,
+    )?;
+    lend(
+        rt,
         b"20 linked variables in 21055 bytes",
         linked(20, 0),
         &mut short,
-    );
+    )
 }
 
 // 19! is below 10^18, and so is eight times that.
-pub fn products() {
-    measure(b"19 linked variables", linked(19, 0));
-    measure(b"20 linked variables", linked(20, 0));
-    measure(b"24 linked variables", linked(24, 0));
-    measure(b"19 linked variables and 3 predicates", linked(19, 3));
-    measure(b"19 linked variables and 4 predicates", linked(19, 4));
+pub fn products(rt: &impl Print) -> io::Result<()> {
+    measure(rt, b"19 linked variables", linked(19, 0))?;
+    measure(rt, b"20 linked variables", linked(20, 0))?;
+    measure(rt, b"24 linked variables", linked(24, 0))?;
+    measure(rt, b"19 linked variables and 3 predicates", linked(19, 3))?;
+    measure(rt, b"19 linked variables and 4 predicates", linked(19, 4))
 }
 
-pub fn measure(name: &[u8], draft: Draft) {
+pub fn measure(rt: &impl Print, name: &[u8], draft: Draft) -> io::Result<()> {
     let mut work = [255u8; 21056];
-    check(name, draft);
-    lend(name, draft, &mut work);
+    check(rt, name, draft)?;
+    lend(rt, name, draft, &mut work)
 }
 
-fn lend(name: &[u8], draft: Draft, work: &mut [u8]) {
-    answers::eliminate(name, draft, work);
-    answers::ranges(name, draft, work);
+fn lend(rt: &impl Print, name: &[u8], draft: Draft, work: &mut [u8]) -> io::Result<()> {
+    answers::eliminate(rt, name, draft, work)?;
+    answers::ranges(rt, name, draft, work)
 }
 
 // The or of equations, one for each variable with itself.

@@ -12,23 +12,25 @@ mod roots;
 mod rows;
 mod worked;
 
-fn main() {
-    worked::rows();
-    worked::examples();
-    refusals::header();
-    refusals::symbols();
-    refusals::layout();
-    refusals::unused();
-    refusals::sorts();
-    refusals::asked();
-    limits::counts();
-    limits::applications();
-    limits::work_buffer();
-    limits::products();
-    budgets::around_the_product();
-    budgets::refusals();
-    roots::two_departments();
-    roots::no_formula();
-    roots::unreached();
-    roots::limits();
+use std::io;
+
+fn main(rt: HostRuntime) -> io::Result<()> {
+    worked::rows(&rt)?;
+    worked::examples(&rt)?;
+    refusals::header(&rt)?;
+    refusals::symbols(&rt)?;
+    refusals::layout(&rt)?;
+    refusals::unused(&rt)?;
+    refusals::sorts(&rt)?;
+    refusals::asked(&rt)?;
+    limits::counts(&rt)?;
+    limits::applications(&rt)?;
+    limits::work_buffer(&rt)?;
+    limits::products(&rt)?;
+    budgets::around_the_product(&rt)?;
+    budgets::refusals(&rt)?;
+    roots::two_departments(&rt)?;
+    roots::no_formula(&rt)?;
+    roots::unreached(&rt)?;
+    roots::limits(&rt)
 }

@@ -9,7 +9,7 @@ use Rattle.problem.proofs.NodeLaws.{length_nodes_of}
 use Rattle.asked.specs.Reached.{reached_of}
 use Rattle.asked.proofs.Renumbering.{Laying, marked_true, marked_false, laying_begins, laying_marked, laying_passed, laying_ends}
 use Rattle.asked.proofs.trim.lay_reached.Statement.{statement}
-use Rattle.asked.proofs.trim.lay_reached.Lts.{then-marks-k-eq1, else-marks-k-eq1}
+use Rattle.asked.proofs.trim.lay_reached.Lts.{then-mark-eq1, else-mark-eq1}
 use Rattle.asked.proofs.trim.lay_reached.Tie as tie
 
 abbrev invariant_loop : tie.invariant-loop-k
@@ -83,13 +83,13 @@ loop_again c =
     let Next : List ℕ → ℕ → Type 0 =
     λ nodes count. Laying s root start.args.nodes.now nodes (set l.numbers l.k l.count) count (l.k + 1)
     in (
-      elim c.if-marks-k-eq1.branch [
-        | then-marks-k-eq1 w ↦ subst (λ (nodes : List ℕ). Next nodes c.if-marks-k-eq1.count) (sym w.nodes-is)
+      elim c.if-mark-eq1.branch [
+        | then-mark-eq1 w ↦ subst (λ (nodes : List ℕ). Next nodes c.if-mark-eq1.count) (sym w.nodes-is)
             (subst (λ (n : ℕ). Next w.lay_renumbered.new.nodes n) (sym w.count-is)
-            (laying_marked p.0 l.invariant.0 h _ (marked_true (mark (reached_of s root) l.k) _ is (omega (arith, w.if-marks-k-eq1.true))) w.lay_renumbered.ensures w.lay_renumbered.auto.nodes))
-        | else-marks-k-eq1 w ↦ subst (λ (nodes : List ℕ). Next nodes c.if-marks-k-eq1.count) (sym w.nodes-is)
+            (laying_marked p.0 l.invariant.0 h _ (marked_true (mark (reached_of s root) l.k) _ is (omega (arith, w.if-mark-eq1.true))) w.lay_renumbered.ensures w.lay_renumbered.auto.nodes))
+        | else-mark-eq1 w ↦ subst (λ (nodes : List ℕ). Next nodes c.if-mark-eq1.count) (sym w.nodes-is)
             (subst (λ (n : ℕ). Next l.nodes n) (sym w.count-is)
-            (laying_passed p.0 l.invariant.0 h (marked_false (mark (reached_of s root) l.k) _ is w.if-marks-k-eq1.false)))
+            (laying_passed p.0 l.invariant.0 h (marked_false (mark (reached_of s root) l.k) _ is w.if-mark-eq1.false)))
       ],
       l.invariant.1,
     )
