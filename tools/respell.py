@@ -26,10 +26,10 @@ STAYS = {"afterOne": "after_one"}  # in two files that have nothing to do with o
 
 SIGNATURE = re.compile(
     r"^\s*(?:(?:pub|abbrev|unfoldable)\s+)*"
-    r"(?!module|record|data|use|open|mutual|where|let|in\b|elim|mod\b)"
+    r"(?!(?:module|record|data|use|open|mutual|where|let|in|elim|mod)\b(?!-))"
     r"([^\s(){}.;,@\"«»:=]+)\s+:\s+(.*)$"
 )
-WORD = re.compile(r"[^\s(){}.;,@\"«»]+")
+WORD = re.compile(r"[^\s(){}.;,@\"«»`]+")
 COMMENT = re.compile(r"(?<!\S)--[^\n]*")
 GHOST_USE = re.compile(r"ghost\s+use\b[^;]*;")
 CLAUSE = re.compile(r"^\s*(?:requires|ensures)\b.*$", re.M)

@@ -45,17 +45,17 @@ module _ {s : List ℕ} {h : Header} (w : Shaped s h) (l : Layout s) (k : ℕ) (
   right : node_right (symbols_of s) (take k (nodes_of s)) n ≡ true
   right = right_at_lem (symbols_of s) (nodes_of s) k l.nodes_right (omega (arith, length_nodes_of w))
 
-  pub uses-few : count_of (sorts_of (symbols_of s) n) ≤ 3
-  uses-few = count_few (take k (nodes_of s)) (sorts_of (symbols_of s) n) n (right_fits (symbols_of s) (take k (nodes_of s)) n right)
+  pub uses_few : count_of (sorts_of (symbols_of s) n) ≤ 3
+  uses_few = count_few (take k (nodes_of s)) (sorts_of (symbols_of s) n) n (right_fits (symbols_of s) (take k (nodes_of s)) n right)
 
-  pub uses-length : length (operands_at s k) ≡ count_of (sorts_of (symbols_of s) n)
-  uses-length = length-take-le (count_of (sorts_of (symbols_of s) n)) (fields_of n) uses-few
+  pub uses_length : length (operands_at s k) ≡ count_of (sorts_of (symbols_of s) n)
+  uses_length = length-take-le (count_of (sorts_of (symbols_of s) n)) (fields_of n) uses_few
 
   -- operand j stands 2 + 2 * j bytes after the node's first
   pub operand_stands : (j at : ℕ) → at ≡ 8 + h.symbols + 8 * k → j < length (operands_at s k) → get_or (operands_at s k) j 0 ≡ two_at s (at + 2 + 2 * j)
   operand_stands j at e i =
-      let u = uses-length in
-      let f = uses-few in
+      let u = uses_length in
+      let f = uses_few in
       get_or-take (count_of (sorts_of (symbols_of s) n)) (fields_of n) j 0 (omega arith) ∙ field_stands w k j at e here (omega arith)
 
   pub operand_earlier : (j : ℕ) → j < length (operands_at s k) → get_or (operands_at s k) j 0 < k

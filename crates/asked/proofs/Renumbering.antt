@@ -20,7 +20,7 @@ use Rattle.definitions.specs.Operations.Buffers.{over}
 use Rattle.theorems.proofs.Accepted.{Layout, length_nodes_at}
 use Rattle.theorems.proofs.Laws.Tests.{split}
 use Rattle.theorems.proofs.Laws.Ops.{AllBelow}
-use Rattle.theorems.proofs.Asked.Reach.{In, in-here, in-later}
+use Rattle.theorems.proofs.Asked.Reach.{In, in_here, in_later}
 use Rattle.theorems.proofs.Asked.Numbers.{none_below, count}
 use Rattle.theorems.proofs.Asked.Trimmed.{earlier, scan, length_trimmed, reached_few, reached_number, trimmed_of}
 use Rattle.theorems.proofs.Asked.Marks.{mark, one, number_next}
@@ -94,7 +94,7 @@ map_same f g m e (x ∷ xs) b = ap₂ {C = List ℕ} (λ (y : ℕ) (ys : List �
 -- all are below k
 number_all : (xs : List ℕ) (k : ℕ) → ((j : ℕ) → In j xs → j < k) → number_in xs k ≡ length xs
 number_all [] k f = refl
-number_all (x ∷ xs) k f = count x xs k (f x (in-here x xs)) ∙ ap suc (number_all xs k (λ j i. f j (in-later j x xs i)))
+number_all (x ∷ xs) k f = count x xs k (f x (in_here x xs)) ∙ ap suc (number_all xs k (λ j i. f j (in_later j x xs i)))
 
 pub marked_true : (b : Bool) (x : ℕ) → x ≡ cond b 1 0 → x ≡ 1 → b ≡ true
 marked_true true x e o = refl

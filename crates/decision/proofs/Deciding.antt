@@ -13,7 +13,7 @@ use Rattle.definitions.specs.Problem.Asked.{asked}
 use Rattle.definitions.specs.Elimination.{table_of}
 use Rattle.definitions.specs.Ranges.{product}
 use Rattle.definitions.specs.Verdict.{outcome_of}
-use Rattle.definitions.specs.Operations.Answers.{Answer, refused, big_product, unless, Decided, decided, eliminateRefusal, buffers_refusal, decide_refusal, decide_answer}
+use Rattle.definitions.specs.Operations.Answers.{Answer, refused, big_product, unless, Decided, decided, eliminate_refusal, buffers_refusal, decide_refusal, decide_answer}
 use Rattle.definitions.specs.Operations.Buffers.{over, unless_refused, work_after_decide, witness_written, witness_after}
 use Rattle.definitions.specs.Operations.Readings.{refusal_read}
 use Rattle.definitions.specs.Operations.Promises.{DecidePromise}
@@ -24,15 +24,15 @@ use Rattle.decision.specs.Searched.{SearchIs}
 
 -- all refusals but 13
 module _ (s : List ℕ) (root work room : ℕ) where
-  pub refused_early : (r : Refused) → eliminateRefusal s root work ≡ some r → buffers_refusal s root work room ≡ some r
+  pub refused_early : (r : Refused) → eliminate_refusal s root work ≡ some r → buffers_refusal s root work room ≡ some r
   unfolding buffers_refusal
   refused_early r e = rw e
 
-  pub refused_witness : eliminateRefusal s root work ≡ none → room < 206 → buffers_refusal s root work room ≡ some (refuse 12 0)
+  pub refused_witness : eliminate_refusal s root work ≡ none → room < 206 → buffers_refusal s root work room ≡ some (refuse 12 0)
   unfolding buffers_refusal
   refused_witness e h = rw (e, lt-ltb room 206 h)
 
-  pub buffers_taken : eliminateRefusal s root work ≡ none → 206 ≤ room → buffers_refusal s root work room ≡ none
+  pub buffers_taken : eliminate_refusal s root work ≡ none → 206 ≤ room → buffers_refusal s root work room ≡ none
   unfolding buffers_refusal
   buffers_taken e h = rw (e, le-ltb room 206 h)
 

@@ -36,9 +36,9 @@ unused_past : (o : Option (List Sort)) (j : ℕ) → sort_wanted o j ≡ none �
 unused_past none j e = omega arith
 unused_past (some ss) j e = none_past ss j e
 
-used-among : (o : Option (List Sort)) (j : ℕ) (x : Sort) → sort_wanted o j ≡ some x → j < count_of o
-used-among none j x e = absurd (none≢some e)
-used-among (some ss) j x e = some_among ss j x e
+used_among : (o : Option (List Sort)) (j : ℕ) (x : Sort) → sort_wanted o j ≡ some x → j < count_of o
+used_among none j x e = absurd (none≢some e)
+used_among (some ss) j x e = some_among ss j x e
 
 pub map_at : {A B : Type 0} (f : A → B) (xs : List A) (j : ℕ) (d : A) (e : B) → j < length xs → get_or (map f xs) j e ≡ f (get_or xs j d)
 map_at f [] j d e h = absurd (omega arith)
@@ -62,12 +62,12 @@ module _ (symbols : List ℕ) (n : Node) (j : ℕ) where
     among : j < length (operands_of symbols n)
     among =
         let c = count_of (sorts_of symbols n) in
-        let before = used-among (sorts_of symbols n) j x used in
+        let before = used_among (sorts_of symbols n) j x used in
         let least = le-min {k = suc j} {a = c} {b = 3} (omega arith) (omega arith) in
         omega (arith, length-take c (fields_of n))
 
     is_field : get_or (operands_of symbols n) j 0 ≡ get_or (fields_of n) j 0
-    is_field = get_or-take (count_of (sorts_of symbols n)) (fields_of n) j 0 (used-among (sorts_of symbols n) j x used)
+    is_field = get_or-take (count_of (sorts_of symbols n)) (fields_of n) j 0 (used_among (sorts_of symbols n) j x used)
 
     pub image_used : (images : List ℕ) → get_or (images_of symbols images n) j 0 ≡ get_or images (get_or (fields_of n) j 0) 0
     image_used images = map_at (λ k. get_or images k 0) (operands_of symbols n) j 0 0 among ∙ ap (λ k. get_or images k 0) is_field

@@ -14,7 +14,7 @@ use Rattle.definitions.specs.Problem.Check.{node_count, symbols_of, nodes_of, fu
 use Rattle.definitions.specs.Problem.Check.{Refused, refuse}
 use Rattle.definitions.specs.Problem.Asked.{asked, limit_refusal, refusal_of}
 use Rattle.definitions.specs.Elimination.{State, begin, steps, eliminated, table_of, root_of}
-use Rattle.definitions.specs.Operations.Answers.{refused, given, unless, Counts, counts, laid, eliminateRefusal, eliminateAnswer}
+use Rattle.definitions.specs.Operations.Answers.{refused, given, unless, Counts, counts, laid, eliminate_refusal, eliminate_answer}
 use Rattle.definitions.specs.Operations.Buffers.{over, unless_refused, work_after}
 use Rattle.definitions.specs.Operations.Readings.{refusal_read, checked_read}
 use Rattle.definitions.specs.Operations.Promises.{EliminatePromise}
@@ -64,45 +64,45 @@ module _ {a : List ℕ} {answer : Checked} (p : Counted a answer) where
     predicates_answered = ap (λ (c : Counts). c.predicates) told
 
 -- refusals 1 to 7, 16, 9, 10 and 11
-pub refused_first : (s : List ℕ) (root work : ℕ) (r : Refused) → refusal_of s root ≡ some r → eliminateRefusal s root work ≡ some r
-unfolding eliminateRefusal
+pub refused_first : (s : List ℕ) (root work : ℕ) (r : Refused) → refusal_of s root ≡ some r → eliminate_refusal s root work ≡ some r
+unfolding eliminate_refusal
 refused_first s root work r e = rw e
 
 module _ {s : List ℕ} {root : ℕ} {a : List ℕ} (A : Asks s root a) (work : ℕ) where
-  pub refused_limit : (r : Refused) → limit_refusal a ≡ some r → eliminateRefusal s root work ≡ some r
+  pub refused_limit : (r : Refused) → limit_refusal a ≡ some r → eliminate_refusal s root work ≡ some r
   refused_limit r e = refused_first s root work r (asks_refusal A ∙ e)
 
-  pub refused_short : limit_refusal a ≡ none → work < 21056 → eliminateRefusal s root work ≡ some (refuse 11 0)
-  unfolding eliminateRefusal
+  pub refused_short : limit_refusal a ≡ none → work < 21056 → eliminate_refusal s root work ≡ some (refuse 11 0)
+  unfolding eliminate_refusal
   refused_short e h = rw (asks_refusal A ∙ e, lt-ltb work 21056 h)
 
-  pub taken : limit_refusal a ≡ none → 21056 ≤ work → eliminateRefusal s root work ≡ none
-  unfolding eliminateRefusal
+  pub taken : limit_refusal a ≡ none → 21056 ≤ work → eliminate_refusal s root work ≡ none
+  unfolding eliminate_refusal
   taken e h = rw (asks_refusal A ∙ e, le-ltb work 21056 h)
 
 -- what a refusal among them leaves, and what is left where there is none
 module _ (s : List ℕ) (root : ℕ) (work : List ℕ) where
-  pub work_kept : (r : Refused) → eliminateRefusal s root (length work) ≡ some r → work ≡ work_after s root work
+  pub work_kept : (r : Refused) → eliminate_refusal s root (length work) ≡ some r → work ≡ work_after s root work
   unfolding work_after
   work_kept r e = rw e
 
-  refusal_answered : (r : Refused) → eliminateRefusal s root (length work) ≡ some r → refused r ≡ eliminateAnswer s root (length work)
-  unfolding eliminateAnswer
+  refusal_answered : (r : Refused) → eliminate_refusal s root (length work) ≡ some r → refused r ≡ eliminate_answer s root (length work)
+  unfolding eliminate_answer
   refusal_answered r e = rw e
 
-  pub refusal_promised : {r : Refusal} → eliminateRefusal s root (length work) ≡ some (refusal_read r)
+  pub refusal_promised : {r : Refusal} → eliminate_refusal s root (length work) ≡ some (refusal_read r)
       → EliminatePromise root s work (Eliminated.Refused r) work
   refusal_promised e = record { answers = refusal_answered _ e; work_after_is = work_kept _ e }
 
-module _ {s : List ℕ} {root : ℕ} {a : List ℕ} (A : Asks s root a) (work : List ℕ) (e : eliminateRefusal s root (length work) ≡ none) where
+module _ {s : List ℕ} {root : ℕ} {a : List ℕ} (A : Asks s root a) (work : List ℕ) (e : eliminate_refusal s root (length work) ≡ none) where
   pub work_laid : over (table_bytes (table_of a)) work ≡ work_after s root work
   unfolding work_after
   work_laid =
       ap (λ (b : List ℕ). over (table_bytes (table_of b)) work) (sym A.problem)
       ∙ sym (ap (λ (o : Option Refused). unless_refused o work (over (table_bytes (table_of (asked s root))) work)) e)
 
-  table_answered : given (laid a) ≡ eliminateAnswer s root (length work)
-  unfolding eliminateAnswer
+  table_answered : given (laid a) ≡ eliminate_answer s root (length work)
+  unfolding eliminate_answer
   table_answered =
       ap (λ (b : List ℕ). given (laid b)) (sym A.problem)
       ∙ sym (ap (λ (o : Option Refused). unless o (laid (asked s root))) e)

@@ -6,7 +6,7 @@ use mathlib.Core.Logic.{inl, inr}
 use lib.ListN.{length}
 use borrow.Author.Tests.{lt-ltb}
 use Rattle.definitions.specs.Night.{word, decimal, REFUSED, said}
-use Rattle.definitions.specs.Operations.Answers.{refused, eliminateRefusal, buffers_refusal, decide_refusal, decide_answer}
+use Rattle.definitions.specs.Operations.Answers.{refused, eliminate_refusal, buffers_refusal, decide_refusal, decide_answer}
 use Rattle.definitions.specs.Problem.Check.{refuse}
 use Rattle.definitions.specs.Problem.Asked.{refusal_of, last_node}
 use Rattle.definitions.specs.Operations.Promises.{DecidePromise}
@@ -25,7 +25,7 @@ said_refused r number place = ap₂ (λ (n p : ℕ). word REFUSED ++ word (decim
 -- bytes with no header are refused whatever node is named
 module _ (s : List ℕ) (root budget work room : ℕ) where
   no_header : length s < 8 → decide_answer s root budget work room ≡ refused (refuse 1 0)
-  unfolding decide_answer decide_refusal buffers_refusal eliminateRefusal refusal_of
+  unfolding decide_answer decide_refusal buffers_refusal eliminate_refusal refusal_of
   no_header h = rw (lt-ltb (length s) 8 h)
 
 -- so what is named as the last node may be any there

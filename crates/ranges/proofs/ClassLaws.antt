@@ -89,8 +89,8 @@ module _
   outside : (u : ℕ) → u < 24 → in_set all u ≡ false → get_or merged u 0 ≡ get_or sets u 0
   outside u h e = m.at u h ∙ ap (λ (b : Bool). cond b all (get_or sets u 0)) e
 
-  in-class : (u v : ℕ) → u < 24 → in_set all u ≡ true → in_set (get_or merged u 0) v ≡ in_set all v
-  in-class u v h e = ap (λ (set : ℕ). in_set set v) (inside u h e)
+  in_class : (u v : ℕ) → u < 24 → in_set all u ≡ true → in_set (get_or merged u 0) v ≡ in_set all v
+  in_class u v h e = ap (λ (set : ℕ). in_set set v) (inside u h e)
 
   old_class : (u v : ℕ) → u < 24 → in_set all u ≡ false → in_set (get_or merged u 0) v ≡ in_set (get_or sets u 0) v
   old_class u v h e = ap (λ (set : ℕ). in_set set v) (outside u h e)
@@ -103,7 +103,7 @@ module _
     where
       with_class : (x y : ℕ) → x < 24 → y < 24 → get_or sets y 0 ≡ get_or sets x 0 → in_set all y ≡ true → in_set all x ≡ true
       with_class x y h k q e =
-          let w = m.union.in-union y e in
+          let w = m.union.in_union y e in
           let same : get_or sets w.0 0 ≡ get_or sets x 0 = sym (p.uniform w.0 y w.1 k w.3) ∙ q in
           m.union.has_union x (w.0, w.1, w.2, ap (λ (set : ℕ). in_set set x) same ∙ p.own x h)
 
@@ -111,14 +111,14 @@ module _
   merged_own u h = go (in_set all u) refl
     where
       go : (b : Bool) → in_set all u ≡ b → Class merged u u
-      go true e = in-class u u h e ∙ e
+      go true e = in_class u u h e ∙ e
       go false e = old_class u u h e ∙ p.own u h
 
   merged_uniform : (u v : ℕ) → u < 24 → v < 24 → Class merged u v → get_or merged v 0 ≡ get_or merged u 0
   merged_uniform u v h k c = go (in_set all u) refl
     where
       go : (b : Bool) → in_set all u ≡ b → get_or merged v 0 ≡ get_or merged u 0
-      go true e = inside v k (sym (in-class u v h e) ∙ c) ∙ sym (inside u h e)
+      go true e = inside v k (sym (in_class u v h e) ∙ c) ∙ sym (inside u h e)
       go false e =
           let old = sym (old_class u v h e) ∙ c in
           outside v k (union_class u v h k old ∙ e) ∙ p.uniform u v h k old ∙ sym (outside u h e)
@@ -142,7 +142,7 @@ module _
   -- a variable in the union is joined with r
   joined_union : (u : ℕ) → in_set all u ≡ true → (u < N) × Joined more N u r
   joined_union u e =
-      let w = m.union.in-union u e in
+      let w = m.union.in_union u e in
       let s = p.sound w.0 u (low w.0 w.2) w.3 in
       (s.0, on u w.0 r (back w.0 u (joined_more link more N more_links s.1)) (joined_ends w.0 w.2))
 
@@ -154,7 +154,7 @@ module _
 
       go : (b : Bool) → in_set all u ≡ b → (v < N) × Joined more N u v
       go true e =
-          let j = joined_union v (sym (in-class u v k e) ∙ c) in
+          let j = joined_union v (sym (in_class u v k e) ∙ c) in
           (j.0, on u r v (joined_union u e).1 (back v r j.1))
       go false e =
           let s = p.sound u v h (sym (old_class u v k e) ∙ c) in
@@ -164,7 +164,7 @@ module _
   kept_class u v h k c = go (in_set all u) refl
     where
       go : (b : Bool) → in_set all u ≡ b → Class merged u v
-      go true e = in-class u v h e ∙ union_class u v h k c ∙ e
+      go true e = in_class u v h e ∙ union_class u v h k c ∙ e
       go false e = old_class u v h e ∙ c
 
   in_all : (u : ℕ) → u < 24 → L u || R u ≡ true → in_set all u ≡ true
@@ -190,7 +190,7 @@ module _
       hv = omega arith
 
       both : L u || R u ≡ true → L v || R v ≡ true → Class merged u v
-      both x y = in-class u v hu (in_all u hu x) ∙ in_all v hv y
+      both x y = in_class u v hu (in_all u hu x) ∙ in_all v hv y
 
   pub partition_merge : Partition more N merged
   partition_merge =

@@ -20,7 +20,7 @@ use Rattle.theorems.proofs.Laws.Tests.{or_cases}
 use Rattle.ranges.specs.Sets.{in_set, ClassesAre, Apart, Merged}
 use Rattle.ranges.specs.Table.{TableIn, table_in}
 use Rattle.ranges.specs.declared.Shape.{Shape}
-use Rattle.ranges.proofs.SetLaws.{in-or}
+use Rattle.ranges.proofs.SetLaws.{in_or}
 use Rattle.ranges.proofs.LeafLaws.{Known, Leafy, leafy}
 use Rattle.ranges.proofs.TableLaws.{LeafSet, length_table, node_in, equation_in}
 use Rattle.ranges.proofs.ClassLaws.{Partition, partition_apart, partition_same, partition_merge, classes_are}
@@ -105,7 +105,7 @@ module _
       r = right.some_leaf o.2.1
 
       ends : (u : ℕ) → in_set (bit_or x y) u ≡ leaf t n.a u || leaf t n.b u
-      ends u = in-or x y u ∙ ap₂ ◌||◌ (f u) (g u)
+      ends u = in_or x y u ∙ ap₂ ◌||◌ (f u) (g u)
 
       low : (u : ℕ) → in_set (bit_or x y) u ≡ true → u < N
       low u e =

@@ -12,7 +12,7 @@ use Rattle.definitions.specs.Problem.Node.{Node, table_bytes}
 use Rattle.definitions.specs.Problem.Check.{symbols_of, nodes_of, functions_in, predicates_in, Refused, refuse, refuse_if}
 use Rattle.definitions.specs.Elimination.{State, eliminated, table_of}
 use Rattle.definitions.specs.Ranges.{tops, tops_of, sizes_of, product, padded}
-use Rattle.definitions.specs.Operations.Answers.{Answer, refused, given, big_product, unless, tops_unless, measured, Measure, RangesAnswer, eliminateRefusal, ranges_refusal, ranges_answer}
+use Rattle.definitions.specs.Operations.Answers.{Answer, refused, given, big_product, unless, tops_unless, measured, Measure, RangesAnswer, eliminate_refusal, ranges_refusal, ranges_answer}
 use Rattle.definitions.specs.Operations.Buffers.{over}
 use Rattle.definitions.specs.Operations.Readings.{refusal_read}
 use Rattle.definitions.specs.Operations.Promises.{RangesPromise}
@@ -75,17 +75,17 @@ module _ (s : List ℕ) (ok : Accepted s) {work work' : List ℕ} {l : Laid} (al
 
 -- what ranges answers and leaves
 module _ (s : List ℕ) (root : ℕ) (work : List ℕ) where
-  refusal_answered : (r : Refused) → eliminateRefusal s root (length work) ≡ some r
+  refusal_answered : (r : Refused) → eliminate_refusal s root (length work) ≡ some r
       → record { tops = replicate 24 0; answer = refused r } ≡ ranges_answer s root (length work)
   unfolding ranges_answer ranges_refusal
   refusal_answered r e = rw e
 
-  pub ranges_refused : (r : Refusal) → eliminateRefusal s root (length work) ≡ some (refusal_read r)
+  pub ranges_refused : (r : Refusal) → eliminate_refusal s root (length work) ≡ some (refusal_read r)
       → RangesPromise root s work (no_ranges r) work
   ranges_refused r e = record { answers = refusal_answered (refusal_read r) e; work_after_is = work_kept s root work (refusal_read r) e }
 
 module _
-    {s : List ℕ} {root : ℕ} {a : List ℕ} (A : Asks s root a) (work : List ℕ) (e : eliminateRefusal s root (length work) ≡ none)
+    {s : List ℕ} {root : ℕ} {a : List ℕ} (A : Asks s root a) (work : List ℕ) (e : eliminate_refusal s root (length work) ≡ none)
     {work' : List ℕ} (w : work' ≡ over (table_bytes (table_of a)) work) where
   -- where the table is laid, 13 is left
   abbrev big : Option Refused

@@ -12,8 +12,8 @@ use borrow.Author.Tests.{eq-eqb, ne_eqb}
 use Rattle.theorems.proofs.Laws.Tests.{split}
 use Rattle.ranges.specs.Sets.{in_set}
 
-pub in-none : (v : ℕ) → in_set 0 v ≡ false
-in-none v = ap (λ n. eqb (n % 2) 1) (zero-div (2 ^ v))
+pub in_none : (v : ℕ) → in_set 0 v ≡ false
+in_none v = ap (λ n. eqb (n % 2) 1) (zero-div (2 ^ v))
 
 -- a bit of two
 below_two : (p q : ℕ) → p < 2 → q < 2 → eqb (max p q) 1 ≡ eqb p 1 || eqb q 1
@@ -25,8 +25,8 @@ below_two (suc zero) (suc zero) h l = refl
 below_two (suc zero) (suc (suc q)) h l = absurd (omega arith)
 below_two (suc (suc p)) q h l = absurd (omega arith)
 
-pub in-or : (a b v : ℕ) → in_set (bit_or a b) v ≡ in_set a v || in_set b v
-in-or a b v =
+pub in_or : (a b v : ℕ) → in_set (bit_or a b) v ≡ in_set a v || in_set b v
+in_or a b v =
     let x = a / 2 ^ v in
     let y = b / 2 ^ v in
     let p = mod-lt x {m = 2} (omega arith) in

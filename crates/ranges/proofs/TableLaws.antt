@@ -12,7 +12,7 @@ use Rattle.definitions.specs.Ranges.{leaf}
 use Rattle.ranges.specs.Sets.{in_set}
 use Rattle.ranges.specs.Table.{TableIn, table_in}
 use Rattle.ranges.specs.declared.Shape.{Shape}
-use Rattle.ranges.proofs.SetLaws.{in-none, in_one, in-or}
+use Rattle.ranges.proofs.SetLaws.{in_none, in_one, in_or}
 use Rattle.ranges.proofs.LeafLaws.{
   Known,
   variable_low,
@@ -70,10 +70,10 @@ module _ {s : List ℕ} {shape : Shape} (w : TableIn s shape) (k : ℕ) (h : k <
 
   pub choice_set : n.op ≡ 1 → (x y : ℕ) → LeafSet t n.b x → LeafSet t n.c y → LeafSet t k (bit_or x y)
   choice_set q x y f g v =
-      in-or x y v ∙ ap₂ ◌||◌ (f v) (g v) ∙ sym (choice_leaf N P t w.free k within n (node_in s shape.nodes k h) q v)
+      in_or x y v ∙ ap₂ ◌||◌ (f v) (g v) ∙ sym (choice_leaf N P t w.free k within n (node_in s shape.nodes k h) q v)
 
   pub other_set : (n.op ≡ 0 → ⊥) → (n.op ≡ 1 → ⊥) → LeafSet t k 0
-  other_set p q v = in-none v ∙ sym (other_leaf N P t w.free k within n (node_in s shape.nodes k h) p q v)
+  other_set p q v = in_none v ∙ sym (other_leaf N P t w.free k within n (node_in s shape.nodes k h) p q v)
 
   pub equation_in : n.op ≡ 2 → Known t k (term ∷ term ∷ []) (fields_of n)
   equation_in = equation_operands N P t w.free k within n (node_in s shape.nodes k h)

@@ -9,13 +9,13 @@ use lib.ListN.{get_or}
 use lib.Bits.{bit_or}
 use Rattle.theorems.proofs.Laws.Tests.{or_cases, or_left, or_right, split}
 use Rattle.ranges.specs.Sets.{in_set, InUnion, UnionIs}
-use Rattle.ranges.proofs.SetLaws.{in-none, in-or}
+use Rattle.ranges.proofs.SetLaws.{in_none, in_or}
 
 module _ (sets : List ℕ) (these : ℕ) where
   pub union_none : UnionIs sets these 0 0
   union_none =
       record {
-        in-union = λ v e. absurd (false≢true (sym (in-none v) ∙ e));
+        in_union = λ v e. absurd (false≢true (sym (in_none v) ∙ e));
         has_union = λ v w. let h = w.1 in absurd (omega arith);
       }
 
@@ -38,15 +38,15 @@ module _ (sets : List ℕ) (these : ℕ) where
     pub union_more : in_set these n ≡ true → UnionIs sets these (n + 1) (bit_or all (get_or sets n 0))
     union_more e =
         record {
-          in-union =
+          in_union =
               λ v p.
-              elim (or_cases (in_set all v) (in_set (get_or sets n 0) v) (sym (in-or all (get_or sets n 0) v) ∙ p)) [
-                | inl q ↦ further v (u.in-union v q)
+              elim (or_cases (in_set all v) (in_set (get_or sets n 0) v) (sym (in_or all (get_or sets n 0) v) ∙ p)) [
+                | inl q ↦ further v (u.in_union v q)
                 | inr q ↦ (n, omega arith, e, q)
               ];
           has_union =
               λ v w.
-              in-or all (get_or sets n 0) v
+              in_or all (get_or sets n 0) v
               ∙ elim (last v w) [
                 | inl x ↦ or_left (in_set all v) (in_set (get_or sets n 0) v) (u.has_union v x)
                 | inr x ↦ or_right (in_set all v) (in_set (get_or sets n 0) v) x.1
@@ -56,7 +56,7 @@ module _ (sets : List ℕ) (these : ℕ) where
     pub union_same : in_set these n ≡ false → UnionIs sets these (n + 1) all
     union_same e =
         record {
-          in-union = λ v p. further v (u.in-union v p);
+          in_union = λ v p. further v (u.in_union v p);
           has_union =
               λ v w.
               elim (last v w) [ inl x ↦ u.has_union v x | inr x ↦ absurd (false≢true (sym e ∙ x.0)) ];

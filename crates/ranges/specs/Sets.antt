@@ -29,7 +29,7 @@ InUnion sets these n v = (u : ℕ) × (u < n) × (in_set these u ≡ true) × (i
 
 -- the classes of the variables below n that are in a set, all in one
 pub record UnionIs (sets : List ℕ) (these n all : ℕ) : Type 0 where
-  pub in-union : (v : ℕ) → in_set all v ≡ true → InUnion sets these n v
+  pub in_union : (v : ℕ) → in_set all v ≡ true → InUnion sets these n v
   pub has_union : (v : ℕ) → InUnion sets these n v → in_set all v ≡ true
 
 -- the classes with those of the variables in a set made one

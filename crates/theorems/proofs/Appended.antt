@@ -22,7 +22,7 @@ use Rattle.definitions.specs.Operations.Answers.{
   short_work,
   short_witness,
   big_product,
-  eliminateRefusal,
+  eliminate_refusal,
   ranges_refusal,
   buffers_refusal,
   decide_refusal,
@@ -33,7 +33,7 @@ use Rattle.definitions.specs.Operations.Answers.{
   measured,
   decided,
   check_answer,
-  eliminateAnswer,
+  eliminate_answer,
   ranges_answer,
   decide_answer,
 }
@@ -47,7 +47,7 @@ use Rattle.definitions.specs.declared.Decision.{Decision}
 use Rattle.theorems.specs.Appending.{Appends}
 use Rattle.theorems.proofs.Laws.First.{first_append}
 use Rattle.theorems.proofs.Asked.Formed.{ask_by}
-use Rattle.theorems.proofs.Unique.{check_unique, eliminate-unique, ranges_unique, decide_unique, host_unique}
+use Rattle.theorems.proofs.Unique.{check_unique, eliminate_unique, ranges_unique, decide_unique, host_unique}
 
 root_stays : (t more : List Node) (root : ℕ) → root < length t → root_wrong t root ≡ root_wrong (t ++ more) root
 root_stays t more root h =
@@ -102,32 +102,32 @@ module _ (s u : List ℕ) (appends : Appends s u) (root : ℕ) (inside : root < 
   unfolding check_answer
   check_appended = stays (λ o a. unless o (counts a))
 
-  pub eliminate-appended : (work : ℕ) → eliminateAnswer s root work ≡ eliminateAnswer u root work
-  unfolding eliminateAnswer eliminateRefusal
-  eliminate-appended work = stays (λ o a. unless (laying work o) (laid a))
+  pub eliminate_appended : (work : ℕ) → eliminate_answer s root work ≡ eliminate_answer u root work
+  unfolding eliminate_answer eliminate_refusal
+  eliminate_appended work = stays (λ o a. unless (laying work o) (laid a))
 
   pub ranges_appended : (work : ℕ) → ranges_answer s root work ≡ ranges_answer u root work
-  unfolding ranges_answer ranges_refusal eliminateRefusal
+  unfolding ranges_answer ranges_refusal eliminate_refusal
   ranges_appended work =
       stays
       (λ o a. record { tops = tops_unless (measuring work o a) (tops_of a); answer = unless (measuring work o a) (measured a) })
 
   pub decide_appended : (budget work room : ℕ) → decide_answer s root budget work room ≡ decide_answer u root budget work room
-  unfolding decide_answer decide_refusal buffers_refusal eliminateRefusal
+  unfolding decide_answer decide_refusal buffers_refusal eliminate_refusal
   decide_appended budget work room = stays (λ o a. unless (deciding work room o a) (decided a (outcome_of a budget)))
 
   -- THE BUFFERS
   pub work_appended : (work : List ℕ) → work_after s root work ≡ work_after u root work
-  unfolding work_after eliminateRefusal
+  unfolding work_after eliminate_refusal
   work_appended work = stays (λ o a. unless_refused (laying (length work) o) work (over (table_bytes (table_of a)) work))
 
   pub decide_work_appended : (work : List ℕ) (room : ℕ) → work_after_decide s root work room ≡ work_after_decide u root work room
-  unfolding work_after_decide buffers_refusal eliminateRefusal
+  unfolding work_after_decide buffers_refusal eliminate_refusal
   decide_work_appended work room =
       stays (λ o a. unless_refused (writing (length work) room o) work (over (table_bytes (table_of a)) work))
 
   pub witness_appended : (budget work : ℕ) (witness : List ℕ) → witness_after s root budget work witness ≡ witness_after u root budget work witness
-  unfolding witness_after decide_refusal buffers_refusal eliminateRefusal
+  unfolding witness_after decide_refusal buffers_refusal eliminate_refusal
   witness_appended budget work witness =
       stays
       (λ o a. unless_refused (deciding work (length witness) o a) witness (witness_written a (outcome_of a budget) witness))
@@ -152,12 +152,12 @@ module _ (s u : List ℕ) (appends : Appends s u) (root : ℕ) (inside : root < 
   pub check_outcomes : (r q : Checked) → CheckPromise root s r → CheckPromise root u q → r ≡ q
   check_outcomes r q x y = check_unique root s r q x (record { answers = y.answers ∙ sym check_appended })
 
-  pub eliminate-outcomes : (work : List ℕ) (r q : Eliminated) (w v : List ℕ)
+  pub eliminate_outcomes : (work : List ℕ) (r q : Eliminated) (w v : List ℕ)
       → EliminatePromise root s work r w → EliminatePromise root u work q v → (r ≡ q) × (w ≡ v)
-  eliminate-outcomes work r q w v x y =
-      eliminate-unique root s work r q w v x
+  eliminate_outcomes work r q w v x y =
+      eliminate_unique root s work r q w v x
       (record {
-        answers = y.answers ∙ sym (eliminate-appended (length work));
+        answers = y.answers ∙ sym (eliminate_appended (length work));
         work_after_is = y.work_after_is ∙ sym (work_appended work);
       })
 

@@ -1,5 +1,5 @@
 -- The top, for the overnight rig: what the host's promise means (01, 'The job', and the three demands). The words are Top's;
--- `verdictIn`, `refusalIn`, `writtenIn`, `place_in`, `triedIn` and `productIn` read the fields of the 32 bytes (specs/Called).
+-- `verdict_in`, `refusal_in`, `written_in`, `place_in`, `tried_in` and `product_in` read the fields of the 32 bytes (specs/Called).
 --
 -- budget, root and s are the call's, work, witness and answer the buffers as lent, those with a prime as left, r what is returned.
 -- Assumes nothing.

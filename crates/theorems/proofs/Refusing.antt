@@ -33,7 +33,7 @@ use Rattle.definitions.specs.Problem.Check.{
 }
 use Rattle.definitions.specs.Problem.Asked.{asked, root_wrong, check_conditions, refusal_of}
 use Rattle.definitions.specs.Ranges.{product}
-use Rattle.definitions.specs.Operations.Answers.{short_work, short_witness, big_product, eliminateRefusal, buffers_refusal, decide_refusal}
+use Rattle.definitions.specs.Operations.Answers.{short_work, short_witness, big_product, eliminate_refusal, buffers_refusal, decide_refusal}
 use Rattle.definitions.specs.Operations.Readings.{refusal_read}
 use Rattle.definitions.specs.declared.Refusal.{Refusal}
 use Rattle.definitions.specs.declared.Refusal.TheVariants.{
@@ -181,7 +181,7 @@ module _ (s : List ℕ) (root work room : ℕ) where
 
   -- decide's refusal is the first of the thirteen, and the table is laid where the first twelve pass
   buffers_twelve : buffers_refusal s root work room ≡ first_of (twelve s root work room)
-  unfolding buffers_refusal eliminateRefusal refusal_of
+  unfolding buffers_refusal eliminate_refusal refusal_of
   buffers_twelve =
       ap (λ (o : Option Refused). first_of (o ∷ short_witness room ∷ [])) (first_append (check_conditions s root) (short_work work ∷ []))
       ∙ first_append (check_conditions s root ++ (short_work work ∷ [])) (short_witness room ∷ [])

@@ -9,7 +9,7 @@ use borrow.Author.Tests.{ltb-false}
 use Rattle.definitions.specs.Problem.Check.{Refused}
 use Rattle.definitions.specs.Problem.Asked.{asked, refusal_of}
 use Rattle.definitions.specs.Ranges.{product}
-use Rattle.definitions.specs.Operations.Answers.{short_work, short_witness, big_product, eliminateRefusal, buffers_refusal, decide_refusal, refused, given, unless}
+use Rattle.definitions.specs.Operations.Answers.{short_work, short_witness, big_product, eliminate_refusal, buffers_refusal, decide_refusal, refused, given, unless}
 use Rattle.theorems.proofs.Laws.First.{all_none}
 use Rattle.theorems.proofs.Accepted.{Accepted, if_none}
 use Rattle.theorems.proofs.Asked.Formed.{Named, accepted}
@@ -24,18 +24,18 @@ pub record Taken (s : List ℕ) (root work room : ℕ) : Type 0 where
 
 -- where the table is laid, the root is a formula node and the problem asked is accepted
 pub laid_accepted : (s : List ℕ) (root work room : ℕ) → buffers_refusal s root work room ≡ none → Named s root × Accepted (asked s root)
-unfolding buffers_refusal eliminateRefusal
+unfolding buffers_refusal eliminate_refusal
 laid_accepted s root work room e =
     accepted s root
     (all_none (refusal_of s root ∷ short_work work ∷ [])
-    (all_none (eliminateRefusal s root work ∷ short_witness room ∷ []) e).0).0
+    (all_none (eliminate_refusal s root work ∷ short_witness room ∷ []) e).0).0
 
 pub taken : (s : List ℕ) (root work room : ℕ) → decide_refusal s root work room ≡ none → Taken s root work room
-unfolding decide_refusal buffers_refusal eliminateRefusal
+unfolding decide_refusal buffers_refusal eliminate_refusal
 taken s root work room e =
     let big = product (asked s root) in
     let c = all_none (buffers_refusal s root work room ∷ big_product (asked s root) ∷ []) e in
-    let b = all_none (eliminateRefusal s root work ∷ short_witness room ∷ []) c.0 in
+    let b = all_none (eliminate_refusal s root work ∷ short_witness room ∷ []) c.0 in
     let a = all_none (refusal_of s root ∷ short_work work ∷ []) b.0 in
     let ok = accepted s root a.0 in
     record {

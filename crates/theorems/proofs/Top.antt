@@ -5,11 +5,11 @@
 -- s are the problem's bytes, root the node named, work and witness the buffers as lent, work' and witness' as left, r the answer.
 -- `Meets s root work room x`: the input meets the condition of refusal x. `Refuses`: it is the first that is met, in the order tried,
 -- which `turn` counts: 16 comes where 8 came. `Passes`: none of the thirteen is met; `PassesTwelve`: none but 13. (specs/Conditions.)
--- `holdsAt I s root`: the interpretation I, total functions and predicates over the whole numbers, makes the named root of the original
+-- `holds_at I s root`: the interpretation I, total functions and predicates over the whole numbers, makes the named root of the original
 -- problem true. `ValidAt s root`: every I does. `FalsifiableAt s root`: some I makes it false. `tables_of w`: the interpretation that
 -- witness bytes stand for. `over bytes b`: the buffer b with these bytes at its start, the rest as it was.
 -- `a` is `asked s root`, the problem asked: the nodes that the root reaches, alone. `table_of a`: its nested-choice elimination.
--- `trueAt a p`: the truth at place p. `product a`: the number of places, which run from 1. Assumes nothing.
+-- `true_at a p`: the truth at place p. `product a`: the number of places, which run from 1. Assumes nothing.
 use mathlib.Core.Path.{◌≡◌}
 use Prim.Native.Nat.{ℕ, ◌≤◌, ◌<◌}
 use mathlib.Core.Bool.{true, false}
@@ -70,7 +70,7 @@ module _
   taken_means = taken_exactly budget root s work witness r work' witness' promise
 
   -- THE TABLE (demand 2): where the input passes all but 13 the work buffer holds the elimination's bytes, the rest as it was.
-  -- `tableTruth a work' A` is the truth of the root, under the assignment A, of the nodes read back from those bytes: every
+  -- `table_truth a work' A` is the truth of the root, under the assignment A, of the nodes read back from those bytes: every
   -- assignment has an interpretation with the same truth of the named root, and every interpretation an assignment
   pub table_means : PassesTwelve s root (length work) (length witness)
       → (work' ≡ over (table_bytes (table_of a)) work)

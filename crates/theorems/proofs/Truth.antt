@@ -20,7 +20,7 @@ use Rattle.theorems.proofs.Ranges.Chains.{chained_refl, chained_sym, chained_tra
 use Rattle.theorems.proofs.Ranges.Components.{linked_sym, link_chained}
 use Rattle.theorems.proofs.Ranges.Renaming.{Equivalence}
 use Rattle.theorems.proofs.Elimination.Counts.{count_apps}
-use Rattle.theorems.proofs.Elimination.WellLaid.{eliminated-free, images_length, image_within, image_sort}
+use Rattle.theorems.proofs.Elimination.WellLaid.{eliminated_free, images_length, image_within, image_sort}
 use Rattle.theorems.proofs.Elimination.OfAssignment.{built, built_value}
 use Rattle.theorems.proofs.Elimination.OfInterpretation.{assigned, assigned_value}
 use Rattle.theorems.proofs.Search.Places.{Positive, product_positive}
@@ -94,7 +94,7 @@ module _ (s : List ℕ) (ok : Accepted s) where
   unfolding eliminated
   table_free =
       subst₂ (λ (n p : ℕ). Free n p (table_of s)) (count_apps (symbols_of s) 0 refl T) (count_apps (symbols_of s) 6 refl T)
-      (eliminated-free (symbols_of s) T ok.layout.nodes_right)
+      (eliminated_free (symbols_of s) T ok.layout.nodes_right)
 
   pub root_image : root_of (eliminated s) ≡ image_of s final
   unfolding eliminated

@@ -23,7 +23,7 @@ use Rattle.definitions.specs.Operations.Answers.{
 use Rattle.definitions.specs.Operations.Readings.{
   refusal_read,
   checked_read,
-  eliminatedRead,
+  eliminated_read,
   measured_read,
   ranges_read,
   decision_read,
@@ -122,13 +122,13 @@ checked_back : (r : Checked) → checked_named (checked_read r) ≡ r
 checked_back (Checked.Accepted f p) = refl
 checked_back (Checked.Refused r) = ap Checked.Refused (refusal_back r)
 
-abbrev eliminatedNamed : Answer Table → Eliminated
-eliminatedNamed (refused r) = Eliminated.Refused (refusal_named r)
-eliminatedNamed (given c) = Eliminated.Table c.nodes c.root
+abbrev eliminated_named : Answer Table → Eliminated
+eliminated_named (refused r) = Eliminated.Refused (refusal_named r)
+eliminated_named (given c) = Eliminated.Table c.nodes c.root
 
-eliminated-back : (r : Eliminated) → eliminatedNamed (eliminatedRead r) ≡ r
-eliminated-back (Eliminated.Table n k) = refl
-eliminated-back (Eliminated.Refused r) = ap Eliminated.Refused (refusal_back r)
+eliminated_back : (r : Eliminated) → eliminated_named (eliminated_read r) ≡ r
+eliminated_back (Eliminated.Table n k) = refl
+eliminated_back (Eliminated.Refused r) = ap Eliminated.Refused (refusal_back r)
 
 abbrev measured_named : Answer Measure → Measured
 measured_named (refused r) = Measured.Refused (refusal_named r)
@@ -181,10 +181,10 @@ reading_apart = apart reading_read reading_named reading_back
 pub check_unique : (root : ℕ) (s : List ℕ) (r q : Checked) → CheckPromise root s r → CheckPromise root s q → r ≡ q
 check_unique root s r q x y = apart checked_read checked_named checked_back r q (x.answers ∙ sym y.answers)
 
-pub eliminate-unique : (root : ℕ) (s work : List ℕ) (r q : Eliminated) (w v : List ℕ)
+pub eliminate_unique : (root : ℕ) (s work : List ℕ) (r q : Eliminated) (w v : List ℕ)
     → EliminatePromise root s work r w → EliminatePromise root s work q v → (r ≡ q) × (w ≡ v)
-eliminate-unique root s work r q w v x y =
-    (apart eliminatedRead eliminatedNamed eliminated-back r q (x.answers ∙ sym y.answers), x.work_after_is ∙ sym y.work_after_is)
+eliminate_unique root s work r q w v x y =
+    (apart eliminated_read eliminated_named eliminated_back r q (x.answers ∙ sym y.answers), x.work_after_is ∙ sym y.work_after_is)
 
 pub ranges_unique : (root : ℕ) (s work : List ℕ) (r q : Ranges) (w v : List ℕ)
     → RangesPromise root s work r w → RangesPromise root s work q v → (r ≡ q) × (w ≡ v)

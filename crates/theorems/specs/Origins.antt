@@ -16,9 +16,9 @@ NodeOf t (tree op symbol a b c) k =
 -- a tree is part of another: it is that one, or part of an operand
 pub data PartOf : Tree → Tree → Type 0 where
   itself : {op symbol : ℕ} {a b c : Tree} → PartOf (tree op symbol a b c) (tree op symbol a b c)
-  in-first : {x a b c : Tree} {op symbol : ℕ} → PartOf x a → PartOf x (tree op symbol a b c)
-  in-second : {x a b c : Tree} {op symbol : ℕ} → PartOf x b → PartOf x (tree op symbol a b c)
-  in-third : {x a b c : Tree} {op symbol : ℕ} → PartOf x c → PartOf x (tree op symbol a b c)
+  in_first : {x a b c : Tree} {op symbol : ℕ} → PartOf x a → PartOf x (tree op symbol a b c)
+  in_second : {x a b c : Tree} {op symbol : ℕ} → PartOf x b → PartOf x (tree op symbol a b c)
+  in_third : {x a b c : Tree} {op symbol : ℕ} → PartOf x c → PartOf x (tree op symbol a b c)
 
 -- the trees of a script whose asserts have these trees: the parts of each assert's tree, in pairs; what joins the first so many
 -- asserts, two or more; "No assert counts as true"; the negation

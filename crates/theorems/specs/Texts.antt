@@ -38,13 +38,13 @@ pub record GoesOn (ts : List Token) : Type 0 where
   pub whole : Subset (text_tokens text)
 
 -- how many brackets open, and how many close, among tokens
-abbrev pub opensOne : Token → ℕ
-opensOne opening = 1
-opensOne closing = 0
-opensOne nought = 0
-opensOne wrong = 0
-opensOne (symbol name) = 0
-opensOne (word name) = 0
+abbrev pub opens_one : Token → ℕ
+opens_one opening = 1
+opens_one closing = 0
+opens_one nought = 0
+opens_one wrong = 0
+opens_one (symbol name) = 0
+opens_one (word name) = 0
 
 abbrev pub closes_one : Token → ℕ
 closes_one opening = 0
@@ -56,7 +56,7 @@ closes_one (word name) = 0
 
 abbrev pub opens : List Token → ℕ
 opens [] = 0
-opens (t ∷ ts) = opensOne t + opens ts
+opens (t ∷ ts) = opens_one t + opens ts
 
 abbrev pub closes : List Token → ℕ
 closes [] = 0

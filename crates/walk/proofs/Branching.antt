@@ -17,7 +17,7 @@ use Rattle.ranges.specs.declared.Shape.{Shape}
 use Rattle.blocks.proofs.Depends.{Each, operands_at, operands_below}
 use Rattle.walk.specs.declared.branches.Branch.{Branch}
 use Rattle.walk.specs.Digits.{value_in}
-use Rattle.walk.specs.Cells.{one, where-true, branch_by, branch_of, cell_at, Decoded, Earlier, Ready, AllReady}
+use Rattle.walk.specs.Cells.{one, where_true, branch_by, branch_of, cell_at, Decoded, Earlier, Ready, AllReady}
 use Rattle.walk.proofs.Values.{node_here, variable_named, truth_named}
 
 -- a branch at position m reads cells before its own
@@ -30,7 +30,7 @@ pub record BranchBefore (m : ℕ) (b : Branch) : Type 0 where
 one_before : (m c : ℕ) → c < 42 + m → BranchBefore m (one c)
 one_before m c h = record { left = h; right = h; same = h; apart = h }
 
-choice_before : (m c s a : ℕ) → c < 42 + m → s < 42 + m → a < 42 + m → BranchBefore m (where-true c s a)
+choice_before : (m c s a : ℕ) → c < 42 + m → s < 42 + m → a < 42 + m → BranchBefore m (where_true c s a)
 choice_before m c s a x y z = record { left = x; right = omega arith; same = y; apart = z }
 
 -- positions that are an order of the nodes: each has its own, every position is a node's, and operands stand before the nodes
@@ -179,22 +179,22 @@ module _ (table : List ℕ) (N at : ℕ) (pos : ℕ → ℕ) where
   as_variable s e q = ap (λ x. one (2 + x)) e ∙ of_op_lem 0 q
 
   pub as_choice : (a b c : ℕ) → a ≡ 42 + pos (two_at table (at + 2)) → b ≡ 42 + pos (two_at table (at + 4)) → c ≡ 42 + pos (two_at table (at + 6))
-      → (byte_at table at ≡ 1) ⊎ (byte_at table at ≡ 9) → where-true a b c ≡ branch_of (cell_at pos) N m
+      → (byte_at table at ≡ 1) ⊎ (byte_at table at ≡ 9) → where_true a b c ≡ branch_of (cell_at pos) N m
   as_choice a b c x y z q =
-      ap (λ i. where-true i b c) x ∙ ap₂ (λ i j. where-true (42 + pos m.a) i j) y z ∙ elim q [ inl p ↦ of_op_lem 1 p | inr p ↦ of_op_lem 9 p ]
+      ap (λ i. where_true i b c) x ∙ ap₂ (λ i j. where_true (42 + pos m.a) i j) y z ∙ elim q [ inl p ↦ of_op_lem 1 p | inr p ↦ of_op_lem 9 p ]
 
   pub as_equal : (a b : ℕ) → a ≡ 42 + pos (two_at table (at + 2)) → b ≡ 42 + pos (two_at table (at + 4)) → byte_at table at ≡ 2
       → record { left = a; right = b; same = 1; apart = 0 } ≡ branch_of (cell_at pos) N m
   as_equal a b x y q = ap₂ (λ i j. record { left = i; right = j; same = 1; apart = 0 }) x y ∙ of_op_lem 2 q
 
-  pub as_not : (a : ℕ) → a ≡ 42 + pos (two_at table (at + 2)) → byte_at table at ≡ 3 → where-true a 0 1 ≡ branch_of (cell_at pos) N m
-  as_not a x q = ap (λ i. where-true i 0 1) x ∙ of_op_lem 3 q
+  pub as_not : (a : ℕ) → a ≡ 42 + pos (two_at table (at + 2)) → byte_at table at ≡ 3 → where_true a 0 1 ≡ branch_of (cell_at pos) N m
+  as_not a x q = ap (λ i. where_true i 0 1) x ∙ of_op_lem 3 q
 
-  pub as_and : (a b : ℕ) → a ≡ 42 + pos (two_at table (at + 2)) → b ≡ 42 + pos (two_at table (at + 4)) → byte_at table at ≡ 4 → where-true a b 0 ≡ branch_of (cell_at pos) N m
-  as_and a b x y q = ap₂ (λ i j. where-true i j 0) x y ∙ of_op_lem 4 q
+  pub as_and : (a b : ℕ) → a ≡ 42 + pos (two_at table (at + 2)) → b ≡ 42 + pos (two_at table (at + 4)) → byte_at table at ≡ 4 → where_true a b 0 ≡ branch_of (cell_at pos) N m
+  as_and a b x y q = ap₂ (λ i j. where_true i j 0) x y ∙ of_op_lem 4 q
 
-  pub as_or : (a b : ℕ) → a ≡ 42 + pos (two_at table (at + 2)) → b ≡ 42 + pos (two_at table (at + 4)) → byte_at table at ≡ 5 → where-true a 1 b ≡ branch_of (cell_at pos) N m
-  as_or a b x y q = ap₂ (λ i j. where-true i 1 j) x y ∙ of_op_lem 5 q
+  pub as_or : (a b : ℕ) → a ≡ 42 + pos (two_at table (at + 2)) → b ≡ 42 + pos (two_at table (at + 4)) → byte_at table at ≡ 5 → where_true a 1 b ≡ branch_of (cell_at pos) N m
+  as_or a b x y q = ap₂ (λ i j. where_true i 1 j) x y ∙ of_op_lem 5 q
 
   pub as_truth : (s : ℕ) → s ≡ byte_at table (at + 1) → byte_at table at ≡ 6 → one (2 + (N + s)) ≡ branch_of (cell_at pos) N m
   as_truth s e q = ap (λ x. one (2 + (N + x))) e ∙ of_op_lem 6 q

@@ -86,8 +86,8 @@ module _
     itself : (c r : ℕ) → at c ≡ r → chosen (at c) (at c) (at c) (at c) ≡ r
     itself c r e = chosen_is (at c) (at c) (at c) (at c) r (λ _. e) (λ _. e)
 
-    where-one : (a p q r : ℕ) → (val a ≡ 1 → p ≡ r) × ((val a ≡ 1 → ⊥) → q ≡ r) → chosen (val a) (at 1) p q ≡ r
-    where-one a p q r w =
+    where_one : (a p q r : ℕ) → (val a ≡ 1 → p ≡ r) × ((val a ≡ 1 → ⊥) → q ≡ r) → chosen (val a) (at 1) p q ≡ r
+    where_one a p q r w =
         let yes = constant.yes l low in
         chosen_is (val a) (at 1) p q r (λ e. w.0 (e ∙ yes)) (λ e. w.1 (λ z. e (z ∙ sym yes)))
 
@@ -95,20 +95,20 @@ module _
     takes_value zero q =
         itself (2 + n.sym) (value k)
         (holds.variable n.sym (variable_named tab ds k below val known q) ∙ at_variable tab ds k below val known q)
-    takes_value (suc zero) q = where-one n.a (val n.b) (val n.c) (value k) (at_choice tab ds k below val known q)
+    takes_value (suc zero) q = where_one n.a (val n.b) (val n.c) (value k) (at_choice tab ds k below val known q)
     takes_value (suc (suc zero)) q =
         chosen_is (val n.a) (val n.b) (at 1) (at 0) (value k)
         (λ e. constant.yes l low ∙ at_equal tab ds k below val known q e)
         (λ e. constant.no l low ∙ at_differ tab ds k below val known q e)
     takes_value (suc (suc (suc zero))) q =
         let w = at_not tab ds k below val known q in
-        where-one n.a (at 0) (at 1) (value k) (λ e. constant.no l low ∙ w.0 e, λ e. constant.yes l low ∙ w.1 e)
+        where_one n.a (at 0) (at 1) (value k) (λ e. constant.no l low ∙ w.0 e, λ e. constant.yes l low ∙ w.1 e)
     takes_value (suc (suc (suc (suc zero)))) q =
         let w = at_and tab ds k below val known q in
-        where-one n.a (val n.b) (at 0) (value k) (w.0, λ e. constant.no l low ∙ w.1 e)
+        where_one n.a (val n.b) (at 0) (value k) (w.0, λ e. constant.no l low ∙ w.1 e)
     takes_value (suc (suc (suc (suc (suc zero))))) q =
         let w = at_or tab ds k below val known q in
-        where-one n.a (at 1) (val n.b) (value k) (λ e. constant.yes l low ∙ w.0 e, w.1)
+        where_one n.a (at 1) (val n.b) (value k) (λ e. constant.yes l low ∙ w.0 e, w.1)
     takes_value (suc (suc (suc (suc (suc (suc zero)))))) q =
         itself (2 + (N + n.sym)) (value k)
         ((let h = truth_named tab ds k below val known q in holds.truth (N + n.sym) (omega arith) (omega arith))
@@ -118,7 +118,7 @@ module _
     takes_value (suc (suc (suc (suc (suc (suc (suc (suc zero)))))))) q =
         itself 0 (value k) (constant.no l low ∙ at_no tab ds k below val known q)
     takes_value (suc (suc (suc (suc (suc (suc (suc (suc (suc zero))))))))) q =
-        where-one n.a (val n.b) (val n.c) (value k) (at_select tab ds k below val known q)
+        where_one n.a (val n.b) (val n.c) (value k) (at_select tab ds k below val known q)
     takes_value (suc (suc (suc (suc (suc (suc (suc (suc (suc (suc op)))))))))) q =
         absurd (no_other tab ds k below val known _ q refl)
 

@@ -22,21 +22,21 @@ abbrev pub one : ℕ → Branch
 one c = record { left = c; right = c; same = c; apart = c }
 
 -- the second where the first is true, else the third
-abbrev pub where-true : ℕ → ℕ → ℕ → Branch
-where-true c same apart = record { left = c; right = 1; same = same; apart = apart }
+abbrev pub where_true : ℕ → ℕ → ℕ → Branch
+where_true c same apart = record { left = c; right = 1; same = same; apart = apart }
 
 -- a node of an op, as a choice between two cells by whether two others are equal; node j stands in cell at j
 abbrev pub branch_by : (ℕ → ℕ) → ℕ → Node → Op → Branch
 branch_by at N n apply = one (2 + n.sym)
-branch_by at N n choose = where-true (at n.a) (at n.b) (at n.c)
+branch_by at N n choose = where_true (at n.a) (at n.b) (at n.c)
 branch_by at N n equal = record { left = at n.a; right = at n.b; same = 1; apart = 0 }
-branch_by at N n negate = where-true (at n.a) 0 1
-branch_by at N n both = where-true (at n.a) (at n.b) 0
-branch_by at N n either = where-true (at n.a) 1 (at n.b)
+branch_by at N n negate = where_true (at n.a) 0 1
+branch_by at N n both = where_true (at n.a) (at n.b) 0
+branch_by at N n either = where_true (at n.a) 1 (at n.b)
 branch_by at N n test = one (2 + (N + n.sym))
 branch_by at N n verum = one 1
 branch_by at N n falsum = one 0
-branch_by at N n select = where-true (at n.a) (at n.b) (at n.c)
+branch_by at N n select = where_true (at n.a) (at n.b) (at n.c)
 branch_by at N n unknown = one 0
 
 abbrev pub branch_of : (ℕ → ℕ) → ℕ → Node → Branch

@@ -4,7 +4,7 @@ ghost use Rattle.std.specs.Prelude.{◌+◌, ◌*◌, ◌≤◌, ◌<◌, ◌≡
 ghost use Rattle.definitions.specs.Bytes.{two_at};
 ghost use Rattle.definitions.specs.Problem.Node.{node_at};
 ghost use Rattle.ranges.specs.Table.{TableIn};
-ghost use Rattle.walk.specs.Cells.{one, where-true, branch_of, cell_at, Decoded};
+ghost use Rattle.walk.specs.Cells.{one, where_true, branch_of, cell_at, Decoded};
 ghost use Rattle.walk.specs.Reading.{InOrder, positions_in};
 
 use problem::bytes::{number, two_at, wide};
@@ -33,7 +33,7 @@ fn itself(cell: usize) -> Branch
 
 // One cell where the condition is true, else the other.
 fn where_true(condition: usize, same: usize, apart: usize) -> Branch
-    ensures { result ≡ where-true condition same apart }
+    ensures { result ≡ where_true condition same apart }
 {
     Branch {
         left: condition,

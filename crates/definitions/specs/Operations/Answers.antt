@@ -22,14 +22,14 @@ abbrev pub big_product : List ℕ → Option Refused
 big_product a = refuse_if (ltb (10 ^ 18) (product a)) 13
 
 -- check can give 1 to 7, 16, 9 and 10; eliminate 11 too; ranges 11 and 13; decide all. Laying the table can be refused by all but 13
-unfoldable pub eliminateRefusal : List ℕ → ℕ → ℕ → Option Refused
-eliminateRefusal s root work = first_of (refusal_of s root ∷ short_work work ∷ [])
+unfoldable pub eliminate_refusal : List ℕ → ℕ → ℕ → Option Refused
+eliminate_refusal s root work = first_of (refusal_of s root ∷ short_work work ∷ [])
 
 unfoldable pub ranges_refusal : List ℕ → ℕ → ℕ → Option Refused
-ranges_refusal s root work = first_of (eliminateRefusal s root work ∷ big_product (asked s root) ∷ [])
+ranges_refusal s root work = first_of (eliminate_refusal s root work ∷ big_product (asked s root) ∷ [])
 
 unfoldable pub buffers_refusal : List ℕ → ℕ → ℕ → ℕ → Option Refused
-buffers_refusal s root work room = first_of (eliminateRefusal s root work ∷ short_witness room ∷ [])
+buffers_refusal s root work room = first_of (eliminate_refusal s root work ∷ short_witness room ∷ [])
 
 unfoldable pub decide_refusal : List ℕ → ℕ → ℕ → ℕ → Option Refused
 decide_refusal s root work room = first_of (buffers_refusal s root work room ∷ big_product (asked s root) ∷ [])
@@ -62,8 +62,8 @@ pub record Table : Type 0 where
 abbrev pub laid : List ℕ → Table
 laid a = record { nodes = length (table_of a); root = root_of (eliminated a) }
 
-unfoldable pub eliminateAnswer : List ℕ → ℕ → ℕ → Answer Table
-eliminateAnswer s root work = unless (eliminateRefusal s root work) (laid (asked s root))
+unfoldable pub eliminate_answer : List ℕ → ℕ → ℕ → Answer Table
+eliminate_answer s root work = unless (eliminate_refusal s root work) (laid (asked s root))
 
 -- ranges: 24 tops, which are all 0 in a refusal, and beside them the count of truth variables and the product
 pub record Measure : Type 0 where

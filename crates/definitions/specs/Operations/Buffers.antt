@@ -7,7 +7,7 @@ use Rattle.definitions.specs.Problem.Asked.{asked}
 use Rattle.definitions.specs.Elimination.{table_of}
 use Rattle.definitions.specs.Verdict.{Outcome, valid, falsified, stopped, outcome_of}
 use Rattle.definitions.specs.Witness.{witness_at}
-use Rattle.definitions.specs.Operations.Answers.{eliminateRefusal, buffers_refusal, decide_refusal}
+use Rattle.definitions.specs.Operations.Answers.{eliminate_refusal, buffers_refusal, decide_refusal}
 
 -- a buffer with these bytes at its start, and the rest as it was
 abbrev pub over : List ℕ → List ℕ → List ℕ
@@ -22,7 +22,7 @@ unless_refused none before after = after
 -- leave the function-free table of the problem asked at its start and the rest untouched
 unfoldable pub work_after : List ℕ → ℕ → List ℕ → List ℕ
 work_after s root work =
-    unless_refused (eliminateRefusal s root (length work)) work (over (table_bytes (table_of (asked s root))) work)
+    unless_refused (eliminate_refusal s root (length work)) work (over (table_bytes (table_of (asked s root))) work)
 
 -- the work buffer after decide, where refusal 12 leaves it as it was too; room is the length of the witness buffer
 unfoldable pub work_after_decide : List ℕ → ℕ → List ℕ → ℕ → List ℕ

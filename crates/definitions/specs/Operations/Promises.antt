@@ -2,9 +2,9 @@
 -- content afterwards (01, 'Promises and idle programs'). s are the problem bytes, root the node asked (02, E2). A name with a prime is
 -- the content afterwards. Assumes nothing.
 use Rattle.std.specs.Prelude.{ℕ, ◌≡◌, List, length}
-use Rattle.definitions.specs.Operations.Answers.{check_answer, eliminateAnswer, ranges_answer, decide_answer}
+use Rattle.definitions.specs.Operations.Answers.{check_answer, eliminate_answer, ranges_answer, decide_answer}
 use Rattle.definitions.specs.Operations.Buffers.{work_after, work_after_decide, witness_after}
-use Rattle.definitions.specs.Operations.Readings.{checked_read, eliminatedRead, ranges_read, decision_read, reading_read}
+use Rattle.definitions.specs.Operations.Readings.{checked_read, eliminated_read, ranges_read, decision_read, reading_read}
 use Rattle.definitions.specs.Operations.Host.{host_outcome, read_outcome}
 use Rattle.definitions.specs.Text.Nodes.{read_answer, read_buffer}
 use Rattle.definitions.specs.declared.Checked.{Checked}
@@ -17,7 +17,7 @@ pub record CheckPromise (root : ℕ) (s : List ℕ) (r : Checked) : Type 0 where
   pub answers : checked_read r ≡ check_answer s root
 
 pub record EliminatePromise (root : ℕ) (s work : List ℕ) (r : Eliminated) (work' : List ℕ) : Type 0 where
-  pub answers : eliminatedRead r ≡ eliminateAnswer s root (length work)
+  pub answers : eliminated_read r ≡ eliminate_answer s root (length work)
   pub work_after_is : work' ≡ work_after s root work
 
 pub record RangesPromise (root : ℕ) (s work : List ℕ) (r : Ranges) (work' : List ℕ) : Type 0 where

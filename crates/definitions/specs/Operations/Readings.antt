@@ -63,9 +63,9 @@ abbrev pub checked_read : Checked → Answer Counts
 checked_read (Checked.Accepted f p) = given (record { functions = f; predicates = p })
 checked_read (Checked.Refused r) = refused (refusal_read r)
 
-abbrev pub eliminatedRead : Eliminated → Answer Table
-eliminatedRead (Eliminated.Table nodes root) = given (record { nodes = nodes; root = root })
-eliminatedRead (Eliminated.Refused r) = refused (refusal_read r)
+abbrev pub eliminated_read : Eliminated → Answer Table
+eliminated_read (Eliminated.Table nodes root) = given (record { nodes = nodes; root = root })
+eliminated_read (Eliminated.Refused r) = refused (refusal_read r)
 
 abbrev pub measured_read : Measured → Answer Measure
 measured_read (Measured.Given truths product) = given (record { truths = truths; product = product })

@@ -8,7 +8,7 @@ use Rattle.definitions.specs.Ranges.{tops, tops_of, sizes_of, product}
 use Rattle.definitions.specs.Places.{values_at, true_at}
 use Rattle.definitions.specs.Verdict.{valid, falsified, stopped, outcome_of}
 use Rattle.definitions.specs.Witness.{rows_at, witness_at}
-use Rattle.definitions.specs.Operations.Answers.{eliminateRefusal, buffers_refusal, decide_refusal, decide_answer}
+use Rattle.definitions.specs.Operations.Answers.{eliminate_refusal, buffers_refusal, decide_refusal, decide_answer}
 use Rattle.definitions.specs.Night.{night_run}
 use Rattle.definitions.specs.Worked.Problems.{row2, row4, row6}
 
@@ -47,6 +47,6 @@ sample_lines =
 
 pub night_sample : night_run sample_jobs ≡ sample_lines
 unfolding
-    night_run decide_answer decide_refusal buffers_refusal eliminateRefusal refusal_of asked outcome_of true_at values_at witness_at rows_at
+    night_run decide_answer decide_refusal buffers_refusal eliminate_refusal refusal_of asked outcome_of true_at values_at witness_at rows_at
     product sizes_of tops_of tops eliminated
 night_sample = refl

@@ -10,7 +10,7 @@ use Rattle.definitions.specs.Places.{values_at, true_at}
 use Rattle.definitions.specs.Verdict.{outcome_of}
 use Rattle.definitions.specs.Witness.{rows_at, witness_at}
 use Rattle.definitions.specs.Operations.Answers.{
-  eliminateRefusal,
+  eliminate_refusal,
   buffers_refusal,
   decide_refusal,
   Answer,
@@ -57,7 +57,7 @@ falsified_of tried product written =
 pub both_answers : map (λ root. decide_answer both root 100 21056 206) (2 ∷ 6 ∷ 3 ∷ [])
     ≡ falsified_of 2 2 16 ∷ falsified_of 4 4 26 ∷ refused (refuse 16 0) ∷ []
 unfolding
-    decide_answer decide_refusal buffers_refusal eliminateRefusal refusal_of asked outcome_of true_at values_at witness_at rows_at
+    decide_answer decide_refusal buffers_refusal eliminate_refusal refusal_of asked outcome_of true_at values_at witness_at rows_at
     product sizes_of tops_of tops eliminated
 both_answers = refl
 
@@ -99,6 +99,6 @@ second_x = refl
 pub not_q : decide_answer (problem_bytes (16 ∷ 16 ∷ []) (plain 6 0 0 0 ∷ record { op = 6; sym = 1; a = 0; b = 0; c = 0 } ∷ plain 3 1 0 0 ∷ [])) 2 100 21056 206
     ≡ falsified_of 2 2 11
 unfolding
-    decide_answer decide_refusal buffers_refusal eliminateRefusal refusal_of asked outcome_of true_at values_at witness_at rows_at
+    decide_answer decide_refusal buffers_refusal eliminate_refusal refusal_of asked outcome_of true_at values_at witness_at rows_at
     product sizes_of tops_of tops eliminated
 not_q = refl

@@ -10,7 +10,7 @@ use Rattle.definitions.specs.Places.{values_at, true_at}
 use Rattle.definitions.specs.Verdict.{outcome_of}
 use Rattle.definitions.specs.Witness.{rows_at, witness_at}
 use Rattle.definitions.specs.Operations.Answers.{
-  eliminateRefusal,
+  eliminate_refusal,
   buffers_refusal,
   decide_refusal,
   Answer,
@@ -81,6 +81,6 @@ seen r =
 
 pub rows : map seen table ≡ table
 unfolding
-    decide_answer decide_refusal buffers_refusal eliminateRefusal refusal_of asked outcome_of true_at values_at witness_at rows_at product
+    decide_answer decide_refusal buffers_refusal eliminate_refusal refusal_of asked outcome_of true_at values_at witness_at rows_at product
     sizes_of tops_of tops eliminated
 rows = refl

@@ -11,7 +11,7 @@ use Rattle.definitions.specs.Ranges.{tops, tops_of, sizes_of, product}
 use Rattle.definitions.specs.Places.{values_at, true_at}
 use Rattle.definitions.specs.Verdict.{outcome_of}
 use Rattle.definitions.specs.Witness.{rows_at, witness_at}
-use Rattle.definitions.specs.Operations.Answers.{given, isFalsified, isStopped, eliminateRefusal, buffers_refusal, decide_refusal, decide_answer}
+use Rattle.definitions.specs.Operations.Answers.{given, isFalsified, isStopped, eliminate_refusal, buffers_refusal, decide_refusal, decide_answer}
 use Rattle.definitions.specs.Operations.Buffers.{witness_after}
 use Rattle.definitions.specs.Solve.{position, position_of, error_line, answer_lines, name_at, row_line, decision_lines, solved, budget_in}
 
@@ -56,9 +56,9 @@ abbrev xy : List ℕ
 xy = H ++ ascii "(declare-fun x () U)(declare-fun y () U)"
 
 pub worked_sat : solved (xy ++ ascii "(assert (not (= x y)))(check-sat)") 10 ≡ ascii "sat\n; x = 1\n; y = 2\n"
-unfolding solved read_answer read_buffer taken script_read tokens_of step bytes_of_script nodes_of_script problem_of_script limits_of_script ask error_line position_of answer_lines row_line name_at decide_answer witness_after witness_at rows_at outcome_of decide_refusal buffers_refusal eliminateRefusal refusal_of asked product tops tops_of sizes_of eliminated values_at true_at
+unfolding solved read_answer read_buffer taken script_read tokens_of step bytes_of_script nodes_of_script problem_of_script limits_of_script ask error_line position_of answer_lines row_line name_at decide_answer witness_after witness_at rows_at outcome_of decide_refusal buffers_refusal eliminate_refusal refusal_of asked product tops tops_of sizes_of eliminated values_at true_at
 worked_sat = refl
 
 pub worked_unsat : solved (xy ++ ascii "(declare-fun f (U) U)(assert (= x y))(assert (not (= (f x) (f y))))(check-sat)") 4 ≡ ascii "unsat\n"
-unfolding solved read_answer read_buffer taken script_read tokens_of step bytes_of_script nodes_of_script problem_of_script limits_of_script ask error_line position_of answer_lines row_line name_at decide_answer witness_after witness_at rows_at outcome_of decide_refusal buffers_refusal eliminateRefusal refusal_of asked product tops tops_of sizes_of eliminated values_at true_at
+unfolding solved read_answer read_buffer taken script_read tokens_of step bytes_of_script nodes_of_script problem_of_script limits_of_script ask error_line position_of answer_lines row_line name_at decide_answer witness_after witness_at rows_at outcome_of decide_refusal buffers_refusal eliminate_refusal refusal_of asked product tops tops_of sizes_of eliminated values_at true_at
 worked_unsat = refl

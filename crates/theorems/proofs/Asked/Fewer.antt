@@ -17,7 +17,7 @@ use Rattle.definitions.specs.Problem.Asked.{reached, renumbered, trimmed, asked,
 use Rattle.theorems.proofs.Laws.Tests.{or_cases, or_left, or_right, and_left, and_right}
 use Rattle.theorems.proofs.Laws.First.{all_none, none_both, first_none}
 use Rattle.theorems.proofs.Elimination.Repeats.{same_node, node_same}
-use Rattle.theorems.proofs.Asked.Reach.{In, in-here, in-later}
+use Rattle.theorems.proofs.Asked.Reach.{In, in_here, in_later}
 use Rattle.theorems.proofs.Asked.Trimmed.{scan}
 use Rattle.theorems.proofs.Asked.Formed.{Named, named_none, cut_right, asked_nodes}
 
@@ -181,8 +181,8 @@ map_from : (f : ℕ → Node) (ks : List ℕ) (x : Node) → Has x (map f ks) �
 map_from f [] x h = absurd (false≢true h)
 map_from f (k ∷ ks) x h =
     elim (has_split x (f k) (map f ks) h) [
-      | inl p ↦ (k, in-here k ks, p)
-      | inr p ↦ (let r = map_from f ks x p in (r.0, in-later r.0 k ks r.1, r.2))
+      | inl p ↦ (k, in_here k ks, p)
+      | inr p ↦ (let r = map_from f ks x p in (r.0, in_later r.0 k ks r.1, r.2))
     ]
 
 pub trimmed_fewer : (op : ℕ) (symbols : List ℕ) (t : List Node) → first_wrong symbols [] t ≡ none

@@ -14,7 +14,7 @@ use Rattle.definitions.specs.Problem.Ops.{operands_of}
 use Rattle.theorems.proofs.Laws.Tests.{or_cases, same_test, split}
 use Rattle.theorems.proofs.Laws.Ops.{AllBelow}
 use Rattle.definitions.specs.Problem.Asked.{wanted_below, number_in}
-use Rattle.theorems.proofs.Asked.Reach.{In, in-here, in-later, in_split, in_left, in_right, in-cases, in_one, below_in, Rising, rising_above, reaches}
+use Rattle.theorems.proofs.Asked.Reach.{In, in_here, in_later, in_split, in_left, in_right, in_cases, in_one, below_in, Rising, rising_above, reaches}
 use Rattle.theorems.proofs.Asked.Numbers.{none_below, skip, count}
 
 -- mark j: whether j is wanted
@@ -24,7 +24,7 @@ mark wanted j = any (eqb j) wanted
 pub mark_append : (j : ℕ) (xs ys : List ℕ) → mark (xs ++ ys) j ≡ mark xs j || mark ys j
 mark_append j xs ys =
     same_test (mark (xs ++ ys) j) (mark xs j || mark ys j)
-    (λ e. go (in-cases j xs ys e))
+    (λ e. go (in_cases j xs ys e))
     (λ e. elim (or_cases (mark xs j) (mark ys j) e) [ inl p ↦ in_left j xs ys p | inr p ↦ in_right j xs ys p ])
   where
     right : (a b : Bool) → b ≡ true → a || b ≡ true
@@ -91,7 +91,7 @@ module _ (symbols : List ℕ) (t : List Node) where
             let rec = wanted_below symbols t k (ops k ++ w) in
             same_test (mark (snoc rec k) j) (mark (marked_below k (ops k ++ w)) j)
             (λ i.
-            elim (in-cases j rec (k ∷ []) i) [
+            elim (in_cases j rec (k ∷ []) i) [
               | inl u ↦ sym (p h') ∙ u
               | inr u ↦ (let z = in_one j k u in absurd (omega arith))
             ])
@@ -100,7 +100,7 @@ module _ (symbols : List ℕ) (t : List Node) where
             let z : k ≡ j = omega arith in
             let rec = wanted_below symbols t k (ops k ++ w) in
             subst (λ (x : ℕ). mark (snoc rec k) x ≡ mark (marked_below k (ops k ++ w)) x) z
-            (in_right k rec (k ∷ []) (in-here k [])
+            (in_right k rec (k ∷ []) (in_here k [])
             ∙ sym (stays_marked k (omega arith) (ops k ++ w) k (omega arith) ∙ in_right k (ops k) w e))
         go false e p q (inl h') = q h'
         go false e p q (inr h') =
@@ -127,7 +127,7 @@ number_next lo (x ∷ xs) r k = go (split x k) (number_next (suc x) xs r.1 k)
         let a = count x xs (suc k) (omega arith) in
         let b = count x xs k l in
         let m : mark (x ∷ xs) k ≡ mark xs k =
-        same_test (mark (x ∷ xs) k) (mark xs k) (λ i. elim (in_split k x xs i) [ inl p ↦ absurd (omega arith) | inr p ↦ p ]) (λ i. in-later k x xs i)
+        same_test (mark (x ∷ xs) k) (mark xs k) (λ i. elim (in_split k x xs i) [ inl p ↦ absurd (omega arith) | inr p ↦ p ]) (λ i. in_later k x xs i)
         in
         let c = ap one m in
         omega arith
@@ -155,6 +155,6 @@ number_next lo (x ∷ xs) r k = go (split x k) (number_next (suc x) xs r.1 k)
               let a' = none_below (suc x) xs (suc k) r.1 (omega arith) in
               let b = skip x xs k l in
               let b' = none_below (suc x) xs k r.1 (omega arith) in
-              let c = marked true (subst (λ (y : ℕ). In k (y ∷ xs)) (sym e) (in-here k xs)) in
+              let c = marked true (subst (λ (y : ℕ). In k (y ∷ xs)) (sym e) (in_here k xs)) in
               omega arith
         ]

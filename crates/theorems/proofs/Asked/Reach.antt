@@ -20,11 +20,11 @@ use Rattle.definitions.specs.Problem.Asked.{wanted_below}
 abbrev pub In : ℕ → List ℕ → Type 0
 In k xs = any (eqb k) xs ≡ true
 
-pub in-here : (k : ℕ) (xs : List ℕ) → In k (k ∷ xs)
-in-here k xs = or_left (eqb k k) (any (eqb k) xs) (eq-eqb k k refl)
+pub in_here : (k : ℕ) (xs : List ℕ) → In k (k ∷ xs)
+in_here k xs = or_left (eqb k k) (any (eqb k) xs) (eq-eqb k k refl)
 
-pub in-later : (k x : ℕ) (xs : List ℕ) → In k xs → In k (x ∷ xs)
-in-later k x xs e = or_right (eqb k x) (any (eqb k) xs) e
+pub in_later : (k x : ℕ) (xs : List ℕ) → In k xs → In k (x ∷ xs)
+in_later k x xs e = or_right (eqb k x) (any (eqb k) xs) e
 
 pub in_split : (k x : ℕ) (xs : List ℕ) → In k (x ∷ xs) → (k ≡ x) ⊎ In k xs
 in_split k x xs e = elim (or_cases (eqb k x) (any (eqb k) xs) e) [ inl p ↦ inl (eqb-true k x p) | inr p ↦ inr p ]
@@ -41,12 +41,12 @@ pub in_right : (k : ℕ) (xs ys : List ℕ) → In k ys → In k (xs ++ ys)
 in_right k [] ys e = e
 in_right k (x ∷ xs) ys e = or_right (eqb k x) (any (eqb k) (xs ++ ys)) (in_right k xs ys e)
 
-pub in-cases : (k : ℕ) (xs ys : List ℕ) → In k (xs ++ ys) → In k xs ⊎ In k ys
-in-cases k [] ys e = inr e
-in-cases k (x ∷ xs) ys e =
+pub in_cases : (k : ℕ) (xs ys : List ℕ) → In k (xs ++ ys) → In k xs ⊎ In k ys
+in_cases k [] ys e = inr e
+in_cases k (x ∷ xs) ys e =
     elim (or_cases (eqb k x) (any (eqb k) (xs ++ ys)) e) [
       | inl p ↦ inl (or_left (eqb k x) (any (eqb k) xs) p)
-      | inr p ↦ elim (in-cases k xs ys p) [ inl q ↦ inl (or_right (eqb k x) (any (eqb k) xs) q) | inr q ↦ inr q ]
+      | inr p ↦ elim (in_cases k xs ys p) [ inl q ↦ inl (or_right (eqb k x) (any (eqb k) xs) q) | inr q ↦ inr q ]
     ]
 
 pub in_one : (j k : ℕ) → In j (k ∷ []) → j ≡ k
@@ -59,8 +59,8 @@ below_in m (k ∷ ks) o b e =
 
 pub get_d_in : (xs : List ℕ) (i : ℕ) → i < length xs → In (get_or xs i 0) xs
 get_d_in [] i h = absurd (omega arith)
-get_d_in (x ∷ xs) zero h = in-here x xs
-get_d_in (x ∷ xs) (suc i) h = in-later (get_or xs i 0) x xs (get_d_in xs i (omega arith))
+get_d_in (x ∷ xs) zero h = in_here x xs
+get_d_in (x ∷ xs) (suc i) h = in_later (get_or xs i 0) x xs (get_d_in xs i (omega arith))
 
 -- each number is above the one before it, and the first is at least the bound
 abbrev pub Rising : ℕ → List ℕ → Type 0
@@ -70,7 +70,7 @@ Rising lo (x ∷ xs) = (lo ≤ x) × Rising (suc x) xs
 pub snoc_rising : (lo : ℕ) (xs : List ℕ) (k : ℕ) → Rising lo xs → ((j : ℕ) → In j xs → j < k) → lo ≤ k → Rising lo (snoc xs k)
 snoc_rising lo [] k r b h = (h, tt)
 snoc_rising lo (x ∷ xs) k r b h =
-    (r.0, snoc_rising (suc x) xs k r.1 (λ j i. b j (in-later j x xs i)) (let l = b x (in-here x xs) in omega arith))
+    (r.0, snoc_rising (suc x) xs k r.1 (λ j i. b j (in_later j x xs i)) (let l = b x (in_here x xs) in omega arith))
 
 pub rising_above : (lo : ℕ) (xs : List ℕ) → Rising lo xs → (j : ℕ) → In j xs → lo ≤ j
 rising_above lo [] r j i = absurd (false≢true i)
@@ -95,7 +95,7 @@ module _ (symbols : List ℕ) (t : List Node) where
     -- node k is wanted
     with_node : (k : ℕ) → k < length t → (wanted r : List ℕ) → In k wanted → Reaches k (ops k ++ wanted) r → Reaches (suc k) wanted (snoc r k)
     with_node k h wanted r here rec =
-        let lower : (j : ℕ) → In j (snoc r k) → In j r ⊎ (j ≡ k) = λ j i. elim (in-cases j r (k ∷ []) i) [ inl p ↦ inl p | inr p ↦ inr (in_one j k p) ] in
+        let lower : (j : ℕ) → In j (snoc r k) → In j r ⊎ (j ≡ k) = λ j i. elim (in_cases j r (k ∷ []) i) [ inl p ↦ inl p | inr p ↦ inr (in_one j k p) ] in
         record {
           below = λ j i. elim (lower j i) [ inl p ↦ (let l = rec.below j p in omega arith) | inr p ↦ omega arith ];
           rising = snoc_rising 0 r k rec.rising rec.below (omega arith);
@@ -104,7 +104,7 @@ module _ (symbols : List ℕ) (t : List Node) where
               λ j l i.
               elim (split j k) [
                 | inl p ↦ in_left j r (k ∷ []) (rec.has j p (in_right j (ops k) wanted i))
-                | inr p ↦ in_right j r (k ∷ []) (subst (λ (x : ℕ). In j (x ∷ [])) (let q : j ≡ k = omega arith in q) (in-here j []))
+                | inr p ↦ in_right j r (k ∷ []) (subst (λ (x : ℕ). In j (x ∷ [])) (let q : j ≡ k = omega arith in q) (in_here j []))
               ];
           closed =
               λ j o i u.
@@ -121,8 +121,8 @@ module _ (symbols : List ℕ) (t : List Node) where
                 | inl p ↦
                     elim (rec.used j p) [
                       | inl q ↦
-                          elim (in-cases j (ops k) wanted q) [
-                            | inl u ↦ inr (k, rec.below j p, in_right k r (k ∷ []) (in-here k []), u)
+                          elim (in_cases j (ops k) wanted q) [
+                            | inl u ↦ inr (k, rec.below j p, in_right k r (k ∷ []) (in_here k []), u)
                             | inr w ↦ inl w
                           ]
                       | inr q ↦ inr (q.0, q.1, in_left q.0 r (k ∷ []) q.2, q.3)
@@ -171,7 +171,7 @@ module _ (symbols : List ℕ) (t : List Node) where
 -- the scan from the root: the root is its last
 pub root_last : (symbols : List ℕ) (t : List Node) (m : ℕ)
     → wanted_below symbols t (suc m) (m ∷ []) ≡ snoc (wanted_below symbols t m (operands_of symbols (node t m) ++ m ∷ [])) m
-root_last symbols t m = ap pick (in-here m [])
+root_last symbols t m = ap pick (in_here m [])
   where
     pick : Bool → List ℕ
     pick b =

@@ -20,7 +20,7 @@ use Rattle.theorems.proofs.Laws.Tests.{and_intro, and_left, and_right}
 use Rattle.theorems.proofs.Laws.Ops.{Alike, AllBelow, sort_at, op_alike, app_alike, operands_rest, fields_node_on}
 use Rattle.theorems.proofs.Tables.Fixed.{right_at_lem, right_below, right_fits, fixed}
 use Rattle.definitions.specs.Problem.Asked.{wanted_below, reached, number_in, renumbered, trimmed}
-use Rattle.theorems.proofs.Asked.Reach.{In, in-here, in-later, in_split, in_one, below_in, get_d_in, Reaches, reaches, root_last}
+use Rattle.theorems.proofs.Asked.Reach.{In, in_here, in_later, in_split, in_one, below_in, get_d_in, Reaches, reaches, root_last}
 use Rattle.theorems.proofs.Asked.Numbers.{number_of_lem, number_in_lem, number_less}
 
 -- a table whose every node is right after those before it has no wrong node
@@ -54,8 +54,8 @@ in_map : (f : ℕ → ℕ) (xs : List ℕ) (k : ℕ) → In k xs → In (f k) (m
 in_map f [] k e = absurd (false≢true e)
 in_map f (x ∷ xs) k e =
     elim (in_split k x xs e) [
-      | inl p ↦ subst (λ (y : ℕ). In (f k) (y ∷ map f xs)) (ap f p) (in-here (f k) (map f xs))
-      | inr p ↦ in-later (f k) (f x) (map f xs) (in_map f xs k p)
+      | inl p ↦ subst (λ (y : ℕ). In (f k) (y ∷ map f xs)) (ap f p) (in_here (f k) (map f xs))
+      | inr p ↦ in_later (f k) (f x) (map f xs) (in_map f xs k p)
     ]
 
 -- operands that move to nodes of the same sorts still fit
@@ -85,22 +85,22 @@ module _ (E E' : List Node) (img : ℕ → ℕ) where
   refit (some []) n m e = refl
   refit (some (s ∷ [])) n m e =
       and_intro (good E' s (img n.a)) true
-      (one s n.a (m n.a (in-here n.a [])) (first s [] n.a (n.b ∷ n.c ∷ []) e)) refl
+      (one s n.a (m n.a (in_here n.a [])) (first s [] n.a (n.b ∷ n.c ∷ []) e)) refl
   refit (some (s ∷ s' ∷ [])) n m e =
       let e' = operands_rest E s (s' ∷ []) n.a (n.b ∷ n.c ∷ []) e in
       and_intro (good E' s (img n.a)) (good E' s' (img n.b) && true)
-      (one s n.a (m n.a (in-here n.a (n.b ∷ []))) (first s (s' ∷ []) n.a (n.b ∷ n.c ∷ []) e))
+      (one s n.a (m n.a (in_here n.a (n.b ∷ []))) (first s (s' ∷ []) n.a (n.b ∷ n.c ∷ []) e))
       (and_intro (good E' s' (img n.b)) true
-      (one s' n.b (m n.b (in-later n.b n.a (n.b ∷ []) (in-here n.b []))) (first s' [] n.b (n.c ∷ []) e')) refl)
+      (one s' n.b (m n.b (in_later n.b n.a (n.b ∷ []) (in_here n.b []))) (first s' [] n.b (n.c ∷ []) e')) refl)
   refit (some (s ∷ s' ∷ s'' ∷ [])) n m e =
       let e' = operands_rest E s (s' ∷ s'' ∷ []) n.a (n.b ∷ n.c ∷ []) e in
       let e'' = operands_rest E s' (s'' ∷ []) n.b (n.c ∷ []) e' in
       and_intro (good E' s (img n.a)) (good E' s' (img n.b) && (good E' s'' (img n.c) && true))
-      (one s n.a (m n.a (in-here n.a (n.b ∷ n.c ∷ []))) (first s (s' ∷ s'' ∷ []) n.a (n.b ∷ n.c ∷ []) e))
+      (one s n.a (m n.a (in_here n.a (n.b ∷ n.c ∷ []))) (first s (s' ∷ s'' ∷ []) n.a (n.b ∷ n.c ∷ []) e))
       (and_intro (good E' s' (img n.b)) (good E' s'' (img n.c) && true)
-      (one s' n.b (m n.b (in-later n.b n.a (n.b ∷ n.c ∷ []) (in-here n.b (n.c ∷ [])))) (first s' (s'' ∷ []) n.b (n.c ∷ []) e'))
+      (one s' n.b (m n.b (in_later n.b n.a (n.b ∷ n.c ∷ []) (in_here n.b (n.c ∷ [])))) (first s' (s'' ∷ []) n.b (n.c ∷ []) e'))
       (and_intro (good E' s'' (img n.c)) true
-      (one s'' n.c (m n.c (in-later n.c n.a (n.b ∷ n.c ∷ []) (in-later n.c n.b (n.c ∷ []) (in-here n.c [])))) (first s'' [] n.c [] e'')) refl))
+      (one s'' n.c (m n.c (in_later n.c n.a (n.b ∷ n.c ∷ []) (in_later n.c n.b (n.c ∷ []) (in_here n.c [])))) (first s'' [] n.c [] e'')) refl))
   refit (some (s ∷ s' ∷ s'' ∷ s''' ∷ ss)) n m e =
       absurd
       (false≢true
@@ -115,11 +115,11 @@ operands_renumbered symbols numbers n = fields_node_on n.op (number_in numbers) 
 module _ (ws vs : List Value) (img : ℕ → ℕ) where
   alike_in : (ks : List ℕ) → ((k : ℕ) → In k ks → value_at ws (img k) ≡ value_at vs k) → Alike ws vs (map img ks) ks
   alike_in [] f = tt
-  alike_in (k ∷ ks) f = (f k (in-here k ks), alike_in ks (λ j i. f j (in-later j k ks i)))
+  alike_in (k ∷ ks) f = (f k (in_here k ks), alike_in ks (λ j i. f j (in_later j k ks i)))
 
   numbers_in : (ks : List ℕ) → ((k : ℕ) → In k ks → value_at ws (img k) ≡ value_at vs k) → map (number_at ws) (map img ks) ≡ map (number_at vs) ks
   numbers_in [] f = refl
-  numbers_in (k ∷ ks) f = ap₂ {C = List ℕ} (λ x xs. x ∷ xs) (ap number_of (f k (in-here k ks))) (numbers_in ks (λ j i. f j (in-later j k ks i)))
+  numbers_in (k ∷ ks) f = ap₂ {C = List ℕ} (λ x xs. x ∷ xs) (ap number_of (f k (in_here k ks))) (numbers_in ks (λ j i. f j (in_later j k ks i)))
 
 pub renumbered_value : (ws vs : List Value) (I : Interpretation) (symbols numbers : List ℕ) (n : Node)
     → ((k : ℕ) → In k (operands_of symbols n) → value_at ws (number_in numbers k) ≡ value_at vs k)

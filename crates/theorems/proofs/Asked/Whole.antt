@@ -19,7 +19,7 @@ use Rattle.theorems.proofs.Laws.Tests.{and_left, and_right, split}
 use Rattle.theorems.proofs.Laws.Ops.{operands_rest}
 use Rattle.theorems.proofs.Tables.Fixed.{right_at_lem, right_fits}
 use Rattle.definitions.specs.Problem.Asked.{reached, number_in, renumbered, trimmed}
-use Rattle.theorems.proofs.Asked.Reach.{In, in-here, in-later, in_split, in_one, below_in, Rising, rising_above, Reaches, reaches}
+use Rattle.theorems.proofs.Asked.Reach.{In, in_here, in_later, in_split, in_one, below_in, Rising, rising_above, Reaches, reaches}
 use Rattle.theorems.proofs.Asked.Numbers.{number_of_lem}
 use Rattle.theorems.proofs.Asked.Trimmed.{AllUsed, earlier, length_trimmed, trimmed_at, reached_few}
 use Rattle.theorems.proofs.Asked.Formed.{Named, cut_right}
@@ -40,37 +40,37 @@ module _ (symbols : List ℕ) (t : List Node) (right : first_wrong symbols [] t 
   scan = reaches symbols t (earlier symbols t right) (length t) (omega arith) (last ∷ [])
 
   from_in : {k : ℕ} → From symbols t last k → In k r
-  from_in start = scan.has last (omega arith) (in-here last [])
+  from_in start = scan.has last (omega arith) (in_here last [])
   from_in (step {j} {o} f u) = scan.closed j o (from_in f) u
 
-  in-from : (d k : ℕ) → length t ≤ k + d → In k r → From symbols t last k
-  in-from zero k h i = absurd (let l = scan.below k i in omega arith)
-  in-from (suc d) k h i =
+  in_from : (d k : ℕ) → length t ≤ k + d → In k r → From symbols t last k
+  in_from zero k h i = absurd (let l = scan.below k i in omega arith)
+  in_from (suc d) k h i =
       elim (scan.used k i) [
         | inl w ↦ subst (From symbols t last) (sym (in_one k last w)) start
         | inr w ↦
             let l = w.1 in
-            step (in-from d w.0 (omega arith) w.2) w.3
+            step (in_from d w.0 (omega arith) w.2) w.3
       ]
 
   pub reached_exactly : (k : ℕ) → In k r ↔ From symbols t last k
-  reached_exactly k = (in-from (length t) k (omega arith), λ f. from_in f)
+  reached_exactly k = (in_from (length t) k (omega arith), λ f. from_in f)
 
   -- where every node is used, all are reached
-  used-in : AllUsed symbols t last → (d k : ℕ) → length t ≤ k + d → k < length t → In k r
-  used-in used zero k h l = absurd (omega arith)
-  used-in used (suc d) k h l =
+  used_in : AllUsed symbols t last → (d k : ℕ) → length t ≤ k + d → k < length t → In k r
+  used_in used zero k h l = absurd (omega arith)
+  used_in used (suc d) k h l =
       elim (used k l) [
-        | inl q ↦ subst (λ (x : ℕ). In x r) (sym q) (scan.has last (omega arith) (in-here last []))
+        | inl q ↦ subst (λ (x : ℕ). In x r) (sym q) (scan.has last (omega arith) (in_here last []))
         | inr w ↦
             let less = w.1 in
-            scan.closed w.0 k (used-in used d w.0 (omega arith) w.2) w.3
+            scan.closed w.0 k (used_in used d w.0 (omega arith) w.2) w.3
       ]
 
 -- a list that rises and has every number from lo to lo + d is that run of numbers
 run_of : (d lo : ℕ) (xs : List ℕ) → Rising lo xs → ((j : ℕ) → In j xs → j < lo + d) → ((j : ℕ) → lo ≤ j → j < lo + d → In j xs) → xs ≡ count_from lo d
 run_of zero lo [] r b f = refl
-run_of zero lo (x ∷ xs) r b f = absurd (let l = r.0 in let h = b x (in-here x xs) in omega arith)
+run_of zero lo (x ∷ xs) r b f = absurd (let l = r.0 in let h = b x (in_here x xs) in omega arith)
 run_of (suc d) lo [] r b f = absurd (false≢true (f lo (omega arith) (omega arith)))
 run_of (suc d) lo (x ∷ xs) r b f = go first (run_of d (suc lo) xs)
   where
@@ -87,7 +87,7 @@ run_of (suc d) lo (x ∷ xs) r b f = go first (run_of d (suc lo) xs)
         → x ∷ xs ≡ lo ∷ count_from (suc lo) d
     go q rec =
         ap₂ {C = List ℕ} (λ y ys. y ∷ ys) q
-        (rec (subst (λ (y : ℕ). Rising (suc y) xs) q r.1) (λ j i. (let h = b j (in-later j x xs i) in omega arith))
+        (rec (subst (λ (y : ℕ). Rising (suc y) xs) q r.1) (λ j i. (let h = b j (in_later j x xs i) in omega arith))
         (λ j l h.
         elim (in_split j x xs (f j (omega arith) (omega arith))) [
           | inl p ↦ absurd (omega arith)
@@ -126,15 +126,15 @@ module _ (E : List Node) (img : ℕ → ℕ) where
       alike n 0 0 0 (zero_first n.a (n.b ∷ n.c ∷ []) e) (zero_first n.b (n.c ∷ []) e') (zero_first n.c [] (zero_rest n.b (n.c ∷ []) e'))
   itself (some (s ∷ [])) n f e =
       let e' = operands_rest E s [] n.a (n.b ∷ n.c ∷ []) e in
-      alike n (img n.a) 0 0 (f n.a (in-here n.a [])) (zero_first n.b (n.c ∷ []) e') (zero_first n.c [] (zero_rest n.b (n.c ∷ []) e'))
+      alike n (img n.a) 0 0 (f n.a (in_here n.a [])) (zero_first n.b (n.c ∷ []) e') (zero_first n.c [] (zero_rest n.b (n.c ∷ []) e'))
   itself (some (s ∷ s' ∷ [])) n f e =
       let e'' = operands_rest E s' [] n.b (n.c ∷ []) (operands_rest E s (s' ∷ []) n.a (n.b ∷ n.c ∷ []) e) in
-      alike n (img n.a) (img n.b) 0 (f n.a (in-here n.a (n.b ∷ []))) (f n.b (in-later n.b n.a (n.b ∷ []) (in-here n.b [])))
+      alike n (img n.a) (img n.b) 0 (f n.a (in_here n.a (n.b ∷ []))) (f n.b (in_later n.b n.a (n.b ∷ []) (in_here n.b [])))
       (zero_first n.c [] e'')
   itself (some (s ∷ s' ∷ s'' ∷ [])) n f e =
-      alike n (img n.a) (img n.b) (img n.c) (f n.a (in-here n.a (n.b ∷ n.c ∷ [])))
-      (f n.b (in-later n.b n.a (n.b ∷ n.c ∷ []) (in-here n.b (n.c ∷ []))))
-      (f n.c (in-later n.c n.a (n.b ∷ n.c ∷ []) (in-later n.c n.b (n.c ∷ []) (in-here n.c []))))
+      alike n (img n.a) (img n.b) (img n.c) (f n.a (in_here n.a (n.b ∷ n.c ∷ [])))
+      (f n.b (in_later n.b n.a (n.b ∷ n.c ∷ []) (in_here n.b (n.c ∷ []))))
+      (f n.c (in_later n.c n.a (n.b ∷ n.c ∷ []) (in_later n.c n.b (n.c ∷ []) (in_here n.c []))))
   itself (some (s ∷ s' ∷ s'' ∷ s''' ∷ ss)) n f e =
       absurd
       (false≢true
@@ -149,7 +149,7 @@ module _ (symbols : List ℕ) (t : List Node) (right : first_wrong symbols [] t 
   all_reached =
       let sc = scan symbols t right some_nodes in
       run_of (length t) 0 rs sc.rising (λ j i. (let l = sc.below j i in omega arith))
-      (λ j l h. used-in symbols t right some_nodes used (length t) j (omega arith) (omega arith))
+      (λ j l h. used_in symbols t right some_nodes used (length t) j (omega arith) (omega arith))
 
   reached_at : (i : ℕ) → i < length t → get_or rs i 0 ≡ i
   reached_at i h =
@@ -184,20 +184,20 @@ rising_room : (n lo : ℕ) (xs : List ℕ) → Rising lo xs → ((j : ℕ) → I
 rising_room n lo [] r b h = omega arith
 rising_room n lo (x ∷ xs) r b h =
     let l = r.0 in
-    let here = b x (in-here x xs) in
-    let rest = rising_room n (suc x) xs r.1 (λ j i. b j (in-later j x xs i)) (omega arith) in
+    let here = b x (in_here x xs) in
+    let rest = rising_room n (suc x) xs r.1 (λ j i. b j (in_later j x xs i)) (omega arith) in
     omega arith
 
 rising_full : (n lo : ℕ) (xs : List ℕ) → Rising lo xs → ((j : ℕ) → In j xs → j < n) → lo + length xs ≡ n → (k : ℕ) → lo ≤ k → k < n → In k xs
 rising_full n lo [] r b e k l h = absurd (omega arith)
 rising_full n lo (x ∷ xs) r b e k l h =
     let low = r.0 in
-    let here = b x (in-here x xs) in
-    let later : (j : ℕ) → In j xs → j < n = λ j i. b j (in-later j x xs i) in
+    let here = b x (in_here x xs) in
+    let later : (j : ℕ) → In j xs → j < n = λ j i. b j (in_later j x xs i) in
     let rest = rising_room n (suc x) xs r.1 later (omega arith) in
     elim (split k (suc x)) [
-      | inl p ↦ subst (λ (y : ℕ). In k (y ∷ xs)) (let q : k ≡ x = omega arith in q) (in-here k xs)
-      | inr p ↦ in-later k x xs (rising_full n (suc x) xs r.1 later (omega arith) k p h)
+      | inl p ↦ subst (λ (y : ℕ). In k (y ∷ xs)) (let q : k ≡ x = omega arith in q) (in_here k xs)
+      | inr p ↦ in_later k x xs (rising_full n (suc x) xs r.1 later (omega arith) k p h)
     ]
 
 -- so where a root reaches as many nodes as there are, it is the last, and all the others are used

@@ -29,9 +29,9 @@ module _ (symbols : List ℕ) (T : List Node) (right : first_wrong symbols [] T 
 
   -- the table is well formed, with a variable for each distinct function application and a truth variable for each distinct
   -- predicate application
-  pub eliminated-free : Free (length (keep (λ app. eqb app.of.op 0) (steps symbols begin T).apps))
+  pub eliminated_free : Free (length (keep (λ app. eqb app.of.op 0) (steps symbols begin T).apps))
       (length (keep (λ app. eqb app.of.op 6) (steps symbols begin T).apps)) (steps symbols begin T).out
-  eliminated-free = final.free
+  eliminated_free = final.free
 
   pub images_length : length (steps symbols begin T).images ≡ length T
   images_length = final.lens ∙ ap length (sym (append-nil (steps symbols begin T).done) ∙ final.whole)

@@ -1,5 +1,5 @@
 -- The top of jobs in solver text, for the overnight rig: what the promise of the host's call that reads a text means (02, E1). The words
--- are those of the top of texts; `verdictIn`, `refusalIn`, `place_in` and `triedIn` read the fields of the 32 bytes (specs/Called).
+-- are those of the top of texts; `verdict_in`, `refusal_in`, `place_in` and `tried_in` read the fields of the 32 bytes (specs/Called).
 --
 -- text is the call's, problem and answer the buffers as lent, those with a prime as left, r what is returned. A place is told by eight
 -- bytes, so a text is taken to be shorter than 256^8 bytes, as every text in a machine's memory is. Assumes nothing else.

@@ -11,7 +11,7 @@ use Rattle.definitions.specs.Problem.Asked.{asked, last_node, refusal_of}
 use Rattle.definitions.specs.Logic.{ValidAt}
 use Rattle.definitions.specs.Ranges.{product}
 use Rattle.definitions.specs.Witness.{tables_of}
-use Rattle.definitions.specs.Operations.Answers.{short_work, short_witness, eliminateRefusal, buffers_refusal}
+use Rattle.definitions.specs.Operations.Answers.{short_work, short_witness, eliminate_refusal, buffers_refusal}
 use Rattle.definitions.specs.Operations.Promises.{DecidePromise}
 use Rattle.definitions.specs.Text.Grammar.{Script}
 use Rattle.definitions.specs.Text.Meaning.{asserts_true, Unsat}
@@ -48,10 +48,10 @@ use Rattle.theorems.proofs.Text.Problems.{text_taken, unsat_exactly, asserts_tru
 -- where check takes a problem, decide can refuse it only for its buffers or its product
 module _ (s : List ℕ) (root work room : ℕ) (ok : refusal_of s root ≡ none) where
   twelve : PassesTwelve s root 21056 206
-  unfolding buffers_refusal eliminateRefusal
+  unfolding buffers_refusal eliminate_refusal
   twelve =
       (passes_twelve s root 21056 206).0
-      (first_none (eliminateRefusal s root 21056 ∷ short_witness 206 ∷ []) (first_none (refusal_of s root ∷ short_work 21056 ∷ []) (ok, (refl, tt)), (refl, tt)))
+      (first_none (eliminate_refusal s root 21056 ∷ short_witness 206 ∷ []) (first_none (refusal_of s root ∷ short_work 21056 ∷ []) (ok, (refl, tt)), (refl, tt)))
 
   pub left_over : (x : Refusal) → Meets s root work room x → (x ≡ ShortWork) ⊎ ((x ≡ ShortWitness) ⊎ (x ≡ BigProduct))
   left_over TooShort m = absurd (twelve TooShort (omega arith) m)

@@ -5,8 +5,8 @@
 -- the bytes answered, with a budget and two buffers, which are work' and witness' as left; d is its answer.
 -- `RefusesText text room x`: refusal x comes, in the order tried. `TakesText text room s`: the text is read as the script s, whose
 -- problem is within the limits. Both speak of texts of the subset, and of no reader (specs/ReadConditions, specs/Texts).
--- `problemOfScript s`: the problem's bytes. `Origin`, `NodeOf`, `NoTwins`: where its nodes come from (specs/Origins).
--- `scriptRead text`: the script that the text writes. `assertsTrue I s`: the interpretation I makes every assert of s true.
+-- `problem_of_script s`: the problem's bytes. `Origin`, `NodeOf`, `NoTwins`: where its nodes come from (specs/Origins).
+-- `script_read text`: the script that the text writes. `asserts_true I s`: the interpretation I makes every assert of s true.
 -- `Unsat s`: none does. `Sat s`: some does. `tables_of w`: the interpretation that witness bytes stand for. `over bytes b`: the buffer b
 -- with these bytes at its start, the rest as it was. Assumes nothing.
 use mathlib.Core.Path.{◌≡◌, subst}

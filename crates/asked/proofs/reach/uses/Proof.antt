@@ -5,7 +5,7 @@ use Rattle.definitions.specs.Problem.Node.{Node}
 use Rattle.definitions.specs.Problem.Ops.{op_of, operand_sorts, arity, count_of}
 use Rattle.definitions.specs.Problem.Check.{symbols_of}
 use Rattle.problem.proofs.NodeLaws.{node_stands}
-use Rattle.asked.proofs.Operands.{uses-few, uses-length}
+use Rattle.asked.proofs.Operands.{uses_few, uses_length}
 use borrow.Author.Rules.{rules}
 use Rattle.asked.proofs.reach.uses.Statement.{statement}
 use Rattle.asked.proofs.reach.uses.Tie as tie
@@ -24,8 +24,8 @@ returns c =
     ∙ ap (arity (symbols_of s)) (sym c.wide.ensures.0)
     ∙ sym c.arity_of.ensures.0))
     in
-    let few = uses-few p.0 p.1 _ p.2 in
-    let long = uses-length p.0 p.1 _ p.2 in
+    let few = uses_few p.0 p.1 _ p.2 in
+    let long = uses_length p.0 p.1 _ p.2 in
     (counted ∙ sym long, subst (λ (m : ℕ). m ≤ 3) (sym counted) few)
 
 pub uses_spec : {M : Type 1} → statement M

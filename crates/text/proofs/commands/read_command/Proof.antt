@@ -43,8 +43,8 @@ module _ (c : tie.In-At) where
   opened_inside : opened ≤ length text
   opened_inside = subst (StepWithin text) c.in-At.is exacts.exact.ensures.1
 
-  opened-later : (begin exacts).args.at ≤ opened
-  opened-later = exactly_later text opening (subst (Exactly text (begin exacts).args.at opening) c.in-At.is exacts.exact.ensures.0)
+  opened_later : (begin exacts).args.at ≤ opened
+  opened_later = exactly_later text opening (subst (Exactly text (begin exacts).args.at opening) c.in-At.is exacts.exact.ensures.0)
 
   commanding : (sn : List ℕ) (cs : List Command) → Reached text (at_command sn cs) (begin exacts).args.at → Reached text (in_command sn cs) opened
   commanding sn cs r = subst (ReachedBy text (in_command sn cs)) c.in-At.is (opens exacts sn cs r)
@@ -99,7 +99,7 @@ returns_3 c =
     subst (ReadsCommand (text known) at) (sym c.word_command.ensures)
     (record {
       sound = command_sound (name_of (text known) (found word)) lexed.result.place lexed.result.next (text known) at
-          (omega (arith, opened-later known, passed word)) lexed.ensures.inside;
+          (omega (arith, opened_later known, passed word)) lexed.ensures.inside;
       says = λ sn cs r.
           word_read (text known) sn cs (opened known) (commanding known sn cs r) lexed.result lexed.ensures (name_of (text known) (found word)) (reads word);
     })

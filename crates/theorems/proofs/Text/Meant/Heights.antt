@@ -10,7 +10,7 @@ use Rattle.definitions.specs.Problem.Node.{Node, node, plain}
 use Rattle.definitions.specs.Problem.Ops.{term, formula}
 use Rattle.definitions.specs.Text.Grammar.{Head, declared, ite, equals, negation, conjunction, disjunction, implication, verum, falsum, Script, new_sort, commands_right, script_right}
 use Rattle.definitions.specs.Text.Nodes.{Tree, absent, tree, operand, over3, pair, grouped, equations, head_tree, leftward, rightward, Laid, lay, lay_all, joined, nodes_of_trees, nodes_of_script, bytes_of_script}
-use Rattle.theorems.specs.Origins.{NodeOf, PartOf, itself, in-first, in-second, in-third, trees_of_script}
+use Rattle.theorems.specs.Origins.{NodeOf, PartOf, itself, in_first, in_second, in_third, trees_of_script}
 use Rattle.theorems.proofs.Laws.Tests.{and_right}
 use Rattle.theorems.proofs.Laws.Ops.{AllBelow}
 use Rattle.theorems.proofs.Text.Meant.Shared.{Earlier}
@@ -26,9 +26,9 @@ height (tree op k a b c) = suc (max (height a) (max (height b) (height c)))
 -- what stands in a tree is no higher
 pub part_height : {x y : Tree} → PartOf x y → height x ≤ height y
 part_height itself = omega arith
-part_height (in-first p) = let h = part_height p in omega arith
-part_height (in-second p) = let h = part_height p in omega arith
-part_height (in-third p) = let h = part_height p in omega arith
+part_height (in_first p) = let h = part_height p in omega arith
+part_height (in_second p) = let h = part_height p in omega arith
+part_height (in_third p) = let h = part_height p in omega arith
 
 -- an operand that is there is in use, so its number is below
 not_both : (x : Tree) → Present x → Absent x → ⊥

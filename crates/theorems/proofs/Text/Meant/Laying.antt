@@ -52,21 +52,21 @@ Full symbols (tree op k a b c) =
 
 -- what is so of each operand that is there is so of those in use
 module _ (m : ℕ) (a b c : Tree) (i j l : ℕ) (p : Present a → i < m) (q : Present b → j < m) (r : Present c → l < m) where
-  pub used-below : (n : ℕ) → AllPresent (take n (a ∷ b ∷ c ∷ [])) → AllBelow m (take n (i ∷ j ∷ l ∷ []))
-  used-below zero h = tt
-  used-below (suc zero) h = (p h.0, tt)
-  used-below (suc (suc zero)) h = (p h.0, (q h.1.0, tt))
-  used-below (suc (suc (suc zero))) h = (p h.0, (q h.1.0, (r h.1.1.0, tt)))
-  used-below (suc (suc (suc (suc n)))) h = (p h.0, (q h.1.0, (r h.1.1.0, tt)))
+  pub used_below : (n : ℕ) → AllPresent (take n (a ∷ b ∷ c ∷ [])) → AllBelow m (take n (i ∷ j ∷ l ∷ []))
+  used_below zero h = tt
+  used_below (suc zero) h = (p h.0, tt)
+  used_below (suc (suc zero)) h = (p h.0, (q h.1.0, tt))
+  used_below (suc (suc (suc zero))) h = (p h.0, (q h.1.0, (r h.1.1.0, tt)))
+  used_below (suc (suc (suc (suc n)))) h = (p h.0, (q h.1.0, (r h.1.1.0, tt)))
 
 module _ (ws : List Value) (a b c : Tree) (u v w : Value) (i j l : ℕ)
     (p : Present a → value_at ws i ≡ u) (q : Present b → value_at ws j ≡ v) (r : Present c → value_at ws l ≡ w) where
-  used-alike : (n : ℕ) → AllPresent (take n (a ∷ b ∷ c ∷ [])) → Alike ws (u ∷ v ∷ w ∷ []) (take n (i ∷ j ∷ l ∷ [])) (take n (0 ∷ 1 ∷ 2 ∷ []))
-  used-alike zero h = tt
-  used-alike (suc zero) h = (p h.0, tt)
-  used-alike (suc (suc zero)) h = (p h.0, (q h.1.0, tt))
-  used-alike (suc (suc (suc zero))) h = (p h.0, (q h.1.0, (r h.1.1.0, tt)))
-  used-alike (suc (suc (suc (suc n)))) h = (p h.0, (q h.1.0, (r h.1.1.0, tt)))
+  used_alike : (n : ℕ) → AllPresent (take n (a ∷ b ∷ c ∷ [])) → Alike ws (u ∷ v ∷ w ∷ []) (take n (i ∷ j ∷ l ∷ [])) (take n (0 ∷ 1 ∷ 2 ∷ []))
+  used_alike zero h = tt
+  used_alike (suc zero) h = (p h.0, tt)
+  used_alike (suc (suc zero)) h = (p h.0, (q h.1.0, tt))
+  used_alike (suc (suc (suc zero))) h = (p h.0, (q h.1.0, (r h.1.1.0, tt)))
+  used_alike (suc (suc (suc (suc n)))) h = (p h.0, (q h.1.0, (r h.1.1.0, tt)))
 
 alike_numbers : (ws vs : List Value) (is ks : List ℕ) → Alike ws vs is ks → map (number_at ws) is ≡ map (number_at vs) ks
 alike_numbers ws vs [] [] h = refl
@@ -126,7 +126,7 @@ module _ (symbols : List ℕ) where
           let xz : z.table ≡ x.table ++ (Y.more ++ Z.more) =
           Z.extends ∙ ap (λ (w : List Node). w ++ Z.more) Y.extends ∙ append_assoc x.table Y.more Z.more in
           let below : AllBelow (length z.table) (operands_of symbols n) =
-          used-below (length z.table) a b c x.number y.number z.number
+          used_below (length z.table) a b c x.number y.number z.number
           (λ p. longer x.table z.table (Y.more ++ Z.more) x.number xz (X.inside p))
           (λ p. longer y.table z.table Z.more y.number Z.extends (Y.inside p)) Z.inside (used symbols op k) h in
           let g = ask_given n z.table in
@@ -142,7 +142,7 @@ module _ (symbols : List ℕ) where
             value = λ I p.
                 ask_value I symbols n z.table Z.earlier below
                 ∙ node_alike I symbols (values I symbols z.table) (tree_value I symbols a ∷ tree_value I symbols b ∷ tree_value I symbols c ∷ []) n (own_node op k) refl refl
-                (used-alike (values I symbols z.table) a b c (tree_value I symbols a) (tree_value I symbols b) (tree_value I symbols c) x.number y.number z.number
+                (used_alike (values I symbols z.table) a b c (tree_value I symbols a) (tree_value I symbols b) (tree_value I symbols c) x.number y.number z.number
                 (λ p. kept I x.table z.table (Y.more ++ Z.more) x.number xz (X.inside p) ∙ X.value I p)
                 (λ p. kept I y.table z.table Z.more y.number Z.extends (Y.inside p) ∙ Y.value I p) (Z.value I) (used symbols op k) h);
           }

@@ -12,7 +12,7 @@ use Rattle.definitions.specs.Lists.{snoc}
 use Rattle.definitions.specs.Problem.Node.{Node, node, no_node, plain}
 use Rattle.definitions.specs.Text.Grammar.{Script}
 use Rattle.definitions.specs.Text.Nodes.{Tree, absent, tree, operand, pair, not_tree, leftward, Laid, place_of, found_or, ask, lay, lay_all, joined, nodes_of_trees, nodes_of_script}
-use Rattle.theorems.specs.Origins.{NodeOf, PartOf, itself, in-first, in-second, in-third, Origin, of_term, of_join, of_none, of_negation, trees_of_script}
+use Rattle.theorems.specs.Origins.{NodeOf, PartOf, itself, in_first, in_second, in_third, Origin, of_term, of_join, of_none, of_negation, trees_of_script}
 use Rattle.theorems.proofs.Laws.Tests.{clash}
 use Rattle.theorems.proofs.Text.Meant.Shared.{ask_given, last_or_before}
 use Rattle.theorems.proofs.Text.Meant.Again.{lay_extends, all_extends}
@@ -67,9 +67,9 @@ lay_node (tree op s a b c) t =
 -- and so has every part of it
 pub part_node : {x y : Tree} (t : List Node) (k : ℕ) → PartOf x y → NodeOf t y k → (j : ℕ) × NodeOf t x j
 part_node t k itself n = (k, n)
-part_node t k (in-first p) n = part_node t _ p n.3
-part_node t k (in-second p) n = part_node t _ p n.4
-part_node t k (in-third p) n = part_node t _ p n.5
+part_node t k (in_first p) n = part_node t _ p n.3
+part_node t k (in_second p) n = part_node t _ p n.4
+part_node t k (in_third p) n = part_node t _ p n.5
 
 -- every node of a table is that of a tree of some kind
 module _ (P : Tree → Type 0) where
@@ -110,7 +110,7 @@ module _ (P : Tree → Type 0) where
       ask_come op s x.number y.number z.number a b c z.table (p (tree op s a b c) itself)
       (node_kept a x.table z.table (Y.0 ++ Z.0) x.number zx (lay_node a t))
       (node_kept b y.table z.table Z.0 y.number Z.1 (lay_node b x.table)) (lay_node c y.table)
-      (lay_come c y.table (λ w q. p w (in-third q)) (lay_come b x.table (λ w q. p w (in-second q)) (lay_come a t (λ w q. p w (in-first q)) come)))
+      (lay_come c y.table (λ w q. p w (in_third q)) (lay_come b x.table (λ w q. p w (in_second q)) (lay_come a t (λ w q. p w (in_first q)) come)))
 
   pub all_come : (xs : List Tree) (t : List Node) → ((i : ℕ) → i < length xs → (y : Tree) → PartOf y (operand xs i) → P y) → Come t → Come (lay_all xs t)
   all_come [] t p come = come
@@ -131,15 +131,15 @@ joined_next (t ∷ us) (suc m) h l =
 -- the parts of what joins the asserts are theirs and the joins
 no_part : {y x : Tree} → x ≡ absent → PartOf y x → ⊥
 no_part e itself = clash (cc)
-no_part e (in-first p) = clash (cc)
-no_part e (in-second p) = clash (cc)
-no_part e (in-third p) = clash (cc)
+no_part e (in_first p) = clash (cc)
+no_part e (in_second p) = clash (cc)
+no_part e (in_third p) = clash (cc)
 
 pair_parts : (P : Tree → Type 0) {u v y : Tree} → P (pair 4 u v) → ((x : Tree) → PartOf x u → P x) → ((x : Tree) → PartOf x v → P x) → PartOf y (pair 4 u v) → P y
 pair_parts P p q r itself = p
-pair_parts P p q r (in-first x) = q _ x
-pair_parts P p q r (in-second x) = r _ x
-pair_parts P p q r (in-third x) = absurd (no_part refl x)
+pair_parts P p q r (in_first x) = q _ x
+pair_parts P p q r (in_second x) = r _ x
+pair_parts P p q r (in_third x) = absurd (no_part refl x)
 
 join_parts : (ts us : List Tree) (n : ℕ) (u : Tree) → u ≡ joined (take n ts) → us ≡ drop n ts → 1 ≤ n → n ≤ length ts
     → ((y : Tree) → PartOf y u → Origin ts y) → (y : Tree) → PartOf y (leftward 4 u us) → Origin ts y
@@ -159,15 +159,15 @@ joined_parts [] y q = only q
   where
     only : {y : Tree} → PartOf y (tree 7 0 absent absent absent) → Origin [] y
     only itself = of_none refl
-    only (in-first p) = absurd (no_part refl p)
-    only (in-second p) = absurd (no_part refl p)
-    only (in-third p) = absurd (no_part refl p)
+    only (in_first p) = absurd (no_part refl p)
+    only (in_second p) = absurd (no_part refl p)
+    only (in_third p) = absurd (no_part refl p)
 joined_parts (t ∷ us) y q = join_parts (t ∷ us) us 1 t refl refl (omega arith) (omega arith) (λ x r. of_term 0 (omega arith) r) y q
 
 -- and the joins are parts of what joins them all
 leftward_part : {x : Tree} (u : Tree) (us : List Tree) → PartOf x u → PartOf x (leftward 4 u us)
 leftward_part u [] p = p
-leftward_part u (v ∷ vs) p = leftward_part (pair 4 u v) vs (in-first p)
+leftward_part u (v ∷ vs) p = leftward_part (pair 4 u v) vs (in_first p)
 
 leftward_append : (t : Tree) (xs ys : List Tree) → leftward 4 t (xs ++ ys) ≡ leftward 4 (leftward 4 t xs) ys
 leftward_append t [] ys = refl

@@ -15,7 +15,7 @@ use Rattle.theorems.proofs.Laws.Grown.{grown_at, grown_append, grown_prefix, len
 use Rattle.theorems.proofs.Laws.Ops.{AllBelow}
 use Rattle.definitions.specs.Text.Nodes.{Tree, absent, tree, Laid, place_of, found_or, ask, lay}
 use Rattle.theorems.proofs.Text.Meant.Shared.{ask_given, Earlier, ask_earlier, last_or_before}
-use Rattle.theorems.proofs.Text.Meant.Laying.{Present, AllPresent, Absent, AllAbsent, used, Full, LaidRight, lay_right, used-below, longer}
+use Rattle.theorems.proofs.Text.Meant.Laying.{Present, AllPresent, Absent, AllAbsent, used, Full, LaidRight, lay_right, used_below, longer}
 
 abbrev pub total : List ℕ → ℕ
 total [] = 0
@@ -89,14 +89,14 @@ module _ (symbols : List ℕ) where
   tree_size absent = 0
   tree_size (tree op k a b c) = suc (total (take (used symbols op k) (tree_size a ∷ tree_size b ∷ tree_size c ∷ [])))
 
-  used-sizes : (ss : List ℕ) (a b c : Tree) (i j l : ℕ) → (Present a → size_at ss i ≡ tree_size a) → (Present b → size_at ss j ≡ tree_size b)
+  used_sizes : (ss : List ℕ) (a b c : Tree) (i j l : ℕ) → (Present a → size_at ss i ≡ tree_size a) → (Present b → size_at ss j ≡ tree_size b)
       → (Present c → size_at ss l ≡ tree_size c) → (n : ℕ) → AllPresent (take n (a ∷ b ∷ c ∷ []))
       → total (map (size_at ss) (take n (i ∷ j ∷ l ∷ []))) ≡ total (take n (tree_size a ∷ tree_size b ∷ tree_size c ∷ []))
-  used-sizes ss a b c i j l p q r zero h = refl
-  used-sizes ss a b c i j l p q r (suc zero) h = rw (p h.0) refl
-  used-sizes ss a b c i j l p q r (suc (suc zero)) h = rw (p h.0, q h.1.0) refl
-  used-sizes ss a b c i j l p q r (suc (suc (suc zero))) h = rw (p h.0, q h.1.0, r h.1.1.0) refl
-  used-sizes ss a b c i j l p q r (suc (suc (suc (suc n)))) h = rw (p h.0, q h.1.0, r h.1.1.0) refl
+  used_sizes ss a b c i j l p q r zero h = refl
+  used_sizes ss a b c i j l p q r (suc zero) h = rw (p h.0) refl
+  used_sizes ss a b c i j l p q r (suc (suc zero)) h = rw (p h.0, q h.1.0) refl
+  used_sizes ss a b c i j l p q r (suc (suc (suc zero))) h = rw (p h.0, q h.1.0, r h.1.1.0) refl
+  used_sizes ss a b c i j l p q r (suc (suc (suc (suc n)))) h = rw (p h.0, q h.1.0, r h.1.1.0) refl
 
   absent_size : (a : Tree) → Absent a → tree_size a ≡ 0
   absent_size absent h = refl
@@ -150,12 +150,12 @@ module _ (symbols : List ℕ) where
           let xz : z.table ≡ x.table ++ (Y.more ++ Z.more) =
           Z.extends ∙ ap (λ (w : List Node). w ++ Z.more) Y.extends ∙ append_assoc x.table Y.more Z.more in
           let below : AllBelow (length z.table) (operands_of symbols n) =
-          used-below (length z.table) a b c x.number y.number z.number
+          used_below (length z.table) a b c x.number y.number z.number
           (λ p. longer symbols x.table z.table (Y.more ++ Z.more) x.number xz (X.inside p))
           (λ p. longer symbols y.table z.table Z.more y.number Z.extends (Y.inside p)) Z.inside (used symbols op k) p in
           let own : node_size (sizes z.table) n ≡ tree_size (tree op k a b c) =
           ap suc
-          (used-sizes (sizes z.table) a b c x.number y.number z.number
+          (used_sizes (sizes z.table) a b c x.number y.number z.number
           (λ p. ap (λ (w : List Node). size w x.number) xz ∙ size_kept x.table (Y.more ++ Z.more) x.number (X.inside p) ∙ SX.size_is p)
           (λ p. ap (λ (w : List Node). size w y.number) Z.extends ∙ size_kept y.table Z.more y.number (Y.inside p) ∙ SY.size_is p)
           SZ.size_is (used symbols op k) p) in

@@ -15,7 +15,7 @@ use Rattle.definitions.specs.Text.Reader.{Stage, exact, naming, commanding, decl
 use Rattle.theorems.specs.Texts.{opens, closes, Shallow}
 use Rattle.theorems.proofs.Laws.Tests.{split}
 use Rattle.theorems.proofs.Text.Taken.Runs.{runs}
-use Rattle.theorems.proofs.Text.Taken.Kept.Levels.{opens-append, closes_append, owed, inv_upper, inv_deep}
+use Rattle.theorems.proofs.Text.Taken.Kept.Levels.{opens_append, closes_append, owed, inv_upper, inv_deep}
 use Rattle.theorems.proofs.Text.Taken.Kept.Sound.{keep_run, start_inv}
 use Rattle.theorems.proofs.Text.Taken.Finished.Finishing.{CanAt}
 use Rattle.theorems.proofs.Text.Taken.Finished.Able.{can_run, can_start}
@@ -59,8 +59,8 @@ pub shallow_part : (ts us : List Token) → Shallow (ts ++ us) → opens ts ≤ 
 shallow_part ts us s = rw take-append_seam at (s (length ts))
 
 -- what makes few into many is an opening bracket
-pub opens-deep : (ts : List Token) (t : Token) → Shallow ts → 66 + closes (snoc ts t) ≤ opens (snoc ts t) → t ≡ opening
-opens-deep ts t s h = go t (opens-append ts (t ∷ [])) (closes_append ts (t ∷ []))
+pub opens_deep : (ts : List Token) (t : Token) → Shallow ts → 66 + closes (snoc ts t) ≤ opens (snoc ts t) → t ≡ opening
+opens_deep ts t s h = go t (opens_append ts (t ∷ [])) (closes_append ts (t ∷ []))
   where
     some_open : opens ts ≤ closes ts + 65
     some_open = rw take-length at (s (length ts))

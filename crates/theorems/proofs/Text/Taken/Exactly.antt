@@ -14,7 +14,7 @@ use Rattle.definitions.specs.Text.Reader.{script_read}
 use Rattle.theorems.specs.Texts.{plain_tokens, Rises, ReadAs, StopsAt, EndsEarly, DeepAt, Told, read, stops, ends, deep}
 use Rattle.theorems.proofs.Laws.Tests.{clash}
 use Rattle.theorems.proofs.Text.Taken.Lexed.{places_rise}
-use Rattle.theorems.proofs.Text.Taken.Depth.{opens-deep}
+use Rattle.theorems.proofs.Text.Taken.Depth.{opens_deep}
 use Rattle.theorems.proofs.Text.Taken.Told.{told}
 use Rattle.theorems.proofs.Text.Taken.Answered.{read_so, stops_so, ends_so, deeps_so}
 
@@ -88,4 +88,4 @@ module _ (text : List ℕ) where
 
   -- and that token is an opening bracket
   pub deep_bracket : (place : ℕ) (r : DeepAt text place) → r.at.token ≡ opening
-  deep_bracket place r = opens-deep (plain_tokens r.before) r.at.token r.shallow r.deep
+  deep_bracket place r = opens_deep (plain_tokens r.before) r.at.token r.shallow r.deep

@@ -31,8 +31,8 @@ lexed (word name) = spellable (word name)
 between : (b low high : ℕ) → within low high b ≡ true → (low ≤ b) × (b ≤ high)
 between b low high e = (leb-true low b (and_left (leb low b) (leb b high) e), leb-true b high (and_right (leb low b) (leb b high) e))
 
-in-bars : (b : ℕ) → 32 ≤ b → b ≤ 126 → (b ≡ 124 → ⊥) → (b ≡ 92 → ⊥) → bar_byte b ≡ true
-in-bars b l h n m =
+in_bars : (b : ℕ) → 32 ≤ b → b ≤ 126 → (b ≡ 124 → ⊥) → (b ≡ 92 → ⊥) → bar_byte b ≡ true
+in_bars b l h n m =
     or_left (white_space b || within 32 126 b && not (is_of (ascii "|\\") b)) (within 128 255 b)
     (or_right (white_space b) (within 32 126 b && not (is_of (ascii "|\\") b))
     (and_intro (within 32 126 b) (not (is_of (ascii "|\\") b)) (and_intro (leb 32 b) (leb b 126) (le-leb 32 b l) (le-leb b 126 h))
@@ -49,18 +49,18 @@ word_bar b e =
                       (let r = between b 97 122 h in
                       let l = r.0 in
                       let u = r.1 in
-                      in-bars b (omega arith) (omega arith) (λ n. omega arith) (λ n. omega arith))
+                      in_bars b (omega arith) (omega arith) (λ n. omega arith) (λ n. omega arith))
                   | inr h ↦
                       (let r = between b 65 90 h in
                       let l = r.0 in
                       let u = r.1 in
-                      in-bars b (omega arith) (omega arith) (λ n. omega arith) (λ n. omega arith))
+                      in_bars b (omega arith) (omega arith) (λ n. omega arith) (λ n. omega arith))
                 ]
             | inr g ↦
                 (let r = between b 48 57 g in
                 let l = r.0 in
                 let u = r.1 in
-                in-bars b (omega arith) (omega arith) (λ n. omega arith) (λ n. omega arith))
+                in_bars b (omega arith) (omega arith) (λ n. omega arith) (λ n. omega arith))
           ]
       | inr f ↦ any_all bar_byte (eqb b) b (eqb-true b) (ascii "~!@$%^&*_-+=<>.?/") f refl
     ]

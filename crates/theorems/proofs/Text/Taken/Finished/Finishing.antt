@@ -131,7 +131,7 @@ pub can_left : (sig : List Symbol) (must : List Sort) (more : Option Sort) → C
 can_left sig [] more c = c
 can_left sig (s ∷ ss) more c = (and_right (inhabited sig s) (all (inhabited sig) ss) c.0, c.1)
 
-module _ (st : State) (in-bars : all named_in_bars (symbols_in st.commands) ≡ true) where
+module _ (st : State) (in_bars : all named_in_bars (symbols_in st.commands) ≡ true) where
   abbrev sig : List Symbol
   sig = symbols_in st.commands
 
@@ -144,7 +144,7 @@ module _ (st : State) (in-bars : all named_in_bars (symbols_in st.commands) ≡ 
   unfolding step
   fill [] more outer c k row = k row
   fill (s ∷ ss) more outer c k row =
-      let b = bare_found sig in-bars s (and_left (inhabited sig s) (all (inhabited sig) ss) c) in
+      let b = bare_found sig in_bars s (and_left (inhabited sig s) (all (inhabited sig) ss) c) in
       let h = b.1.1.0 in
       one_more_lem (within (s ∷ ss) more row outer) (within ss more (put row h end) outer) (symbol b.0) b.1.0 (ap (takes row) b.1.1.1)
       (fill ss more outer (and_right (inhabited sig s) (all (inhabited sig) ss) c) k (put row h end))

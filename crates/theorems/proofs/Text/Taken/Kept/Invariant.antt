@@ -98,9 +98,9 @@ base_snoc sn cs c =
     (written_snoc_from sn [] cs c ∙ ap (λ (sig : List Symbol). commands_written sn [] cs ++ command_written sn sig c) (after_all_lem [] cs))
 
 -- the tokens of the brackets that are open, with what stands before each in its list
-abbrev pub openWritten : List Symbol → List Opened → List Token
-openWritten sig [] = []
-openWritten sig (o ∷ os) = openWritten sig os ++ terms_written sig o.before ++ (opening ∷ head_token sig o.head ∷ [])
+abbrev pub open_written : List Symbol → List Opened → List Token
+open_written sig [] = []
+open_written sig (o ∷ os) = open_written sig os ++ terms_written sig o.before ++ (opening ∷ head_token sig o.head ∷ [])
 
 -- the lists that are open are right as far as they go
 abbrev pub Stack : List Symbol → Wanted → Terms → List Opened → Type 0
@@ -131,10 +131,10 @@ stack_put sig w row (o ∷ os) h args i a b c =
     )
 
 -- a row that leaves nothing missing, where something must come, is not empty: the term stands in brackets
-pub in-brackets : (t : Token) (w : Wanted) (row : Terms) (ts : List Token) → ready w ≡ false → ready (remaining w row) ≡ true
+pub in_brackets : (t : Token) (w : Wanted) (row : Terms) (ts : List Token) → ready w ≡ false → ready (remaining w row) ≡ true
     → term_written t row ts ≡ opening ∷ t ∷ snoc ts closing
-in-brackets t w end ts p q = absurd (true≢false (sym q ∙ p))
-in-brackets t w (call h args rest) ts p q = refl
+in_brackets t w end ts p q = absurd (true≢false (sym q ∙ p))
+in_brackets t w (call h args rest) ts p q = refl
 
 abbrev pub Ready : List ℕ → List Command → Type 0
 Ready sn cs = (new_sort sn ≡ true) × (commands_right [] cs ≡ true)
@@ -160,7 +160,7 @@ Inv sn cs (giving name k) ts =
     × (ts ≡ base sn cs ++ snoc (opening ∷ DECLARE ∷ symbol name ∷ opening ∷ replicate k (symbol sn)) closing)
 Inv sn cs (inside w row outer) ts =
     Ready sn cs × Stack (symbols_in cs) w row outer
-    × (ts ≡ base sn cs ++ (opening ∷ ASSERT ∷ openWritten (symbols_in cs) outer ++ terms_written (symbols_in cs) row))
+    × (ts ≡ base sn cs ++ (opening ∷ ASSERT ∷ open_written (symbols_in cs) outer ++ terms_written (symbols_in cs) row))
 Inv sn cs (heading s w row outer) ts =
     Ready sn cs × Stack (symbols_in cs) w row outer × (next w ≡ some s)
-    × (ts ≡ base sn cs ++ (opening ∷ ASSERT ∷ snoc (openWritten (symbols_in cs) outer ++ terms_written (symbols_in cs) row) opening))
+    × (ts ≡ base sn cs ++ (opening ∷ ASSERT ∷ snoc (open_written (symbols_in cs) outer ++ terms_written (symbols_in cs) row) opening))

@@ -11,12 +11,12 @@ use Rattle.definitions.specs.Text.Ascii.{ascii}
 use Rattle.definitions.specs.Text.Tokens.{Token, opening, closing, symbol, word}
 use Rattle.definitions.specs.Text.Grammar.{Symbol, Head, declared, ite, equals, negation, conjunction, disjunction, implication, verum, falsum, Terms, end, call, Command, declare, assert, Wanted, symbols_in, after, head_token, term_written, terms_written, sort_written, command_written, commands_written}
 use Rattle.definitions.specs.Text.Reader.{Opened, Stage, exact, naming, commanding, declaring, finished, taking, giving, inside, heading, level_of}
-use Rattle.theorems.specs.Texts.{opensOne, closes_one, opens, closes}
-use Rattle.theorems.proofs.Text.Taken.Kept.Invariant.{base, openWritten, Inv, DECLARE, ASSERT}
+use Rattle.theorems.specs.Texts.{opens_one, closes_one, opens, closes}
+use Rattle.theorems.proofs.Text.Taken.Kept.Invariant.{base, open_written, Inv, DECLARE, ASSERT}
 
-pub opens-append : (ts us : List Token) → opens (ts ++ us) ≡ opens ts + opens us
-opens-append [] us = omega arith
-opens-append (t ∷ ts) us = let e = opens-append ts us in omega arith
+pub opens_append : (ts us : List Token) → opens (ts ++ us) ≡ opens ts + opens us
+opens_append [] us = omega arith
+opens_append (t ∷ ts) us = let e = opens_append ts us in omega arith
 
 pub closes_append : (ts us : List Token) → closes (ts ++ us) ≡ closes ts + closes us
 closes_append [] us = omega arith
@@ -27,9 +27,9 @@ abbrev pub Open : ℕ → List Token → Type 0
 Open n ts = opens ts ≡ closes ts + n
 
 pub both_open : (m n : ℕ) (ts us : List Token) → Open m ts → Open n us → Open (m + n) (ts ++ us)
-both_open m n ts us p q = let x = opens-append ts us in let y = closes_append ts us in omega arith
+both_open m n ts us p q = let x = opens_append ts us in let y = closes_append ts us in omega arith
 
-head_open : (sig : List Symbol) (h : Head) → (opensOne (head_token sig h) ≡ 0) × (closes_one (head_token sig h) ≡ 0)
+head_open : (sig : List Symbol) (h : Head) → (opens_one (head_token sig h) ≡ 0) × (closes_one (head_token sig h) ≡ 0)
 head_open sig (declared s k) = (refl, refl)
 head_open sig (ite s) = (refl, refl)
 head_open sig equals = (refl, refl)
@@ -46,7 +46,7 @@ term_open sig h end ts p = let x = (head_open sig h).0 in let y = (head_open sig
 term_open sig h (call g a r) ts p =
     let x = (head_open sig h).0 in
     let y = (head_open sig h).1 in
-    let u = opens-append ts (closing ∷ []) in
+    let u = opens_append ts (closing ∷ []) in
     let v = closes_append ts (closing ∷ []) in
     omega arith
 
@@ -56,7 +56,7 @@ terms_open sig (call h args rest) =
     both_open 0 0 (term_written (head_token sig h) args (terms_written sig args)) (terms_written sig rest)
     (term_open sig h args (terms_written sig args) (terms_open sig args)) (terms_open sig rest)
 
-sort_open : (sn : List ℕ) (s : Sort) → (opensOne (sort_written sn s) ≡ 0) × (closes_one (sort_written sn s) ≡ 0)
+sort_open : (sn : List ℕ) (s : Sort) → (opens_one (sort_written sn s) ≡ 0) × (closes_one (sort_written sn s) ≡ 0)
 sort_open sn term = (refl, refl)
 sort_open sn formula = (refl, refl)
 
@@ -71,12 +71,12 @@ command_open sn sig (declare y) =
     let x = (sort_open sn y.result).0 in
     let z = (sort_open sn y.result).1 in
     let e = names_open y.arity sn in
-    let p = opens-append R (closing ∷ u ∷ closing ∷ []) in
+    let p = opens_append R (closing ∷ u ∷ closing ∷ []) in
     let q = closes_append R (closing ∷ u ∷ closing ∷ []) in
     omega arith
 command_open sn sig (assert t) =
     let e = terms_open sig t in
-    let p = opens-append (terms_written sig t) (closing ∷ []) in
+    let p = opens_append (terms_written sig t) (closing ∷ []) in
     let q = closes_append (terms_written sig t) (closing ∷ []) in
     omega arith
 
@@ -88,7 +88,7 @@ commands_open sn sig (c ∷ cs) =
 pub base_open : (sn : List ℕ) (cs : List Command) → Open 0 (base sn cs)
 base_open sn cs = let e = commands_open sn [] cs in omega arith
 
-pub outer_open : (sig : List Symbol) (outer : List Opened) → Open (length outer) (openWritten sig outer)
+pub outer_open : (sig : List Symbol) (outer : List Opened) → Open (length outer) (open_written sig outer)
 outer_open sig [] = refl
 outer_open sig (o ∷ os) =
     let h = head_token sig o.head in
@@ -96,8 +96,8 @@ outer_open sig (o ∷ os) =
     let y = (head_open sig o.head).1 in
     let one : Open 1 (opening ∷ h ∷ []) = omega arith in
     let e =
-    both_open (length os + 0) 1 (openWritten sig os ++ terms_written sig o.before) (opening ∷ h ∷ [])
-    (both_open (length os) 0 (openWritten sig os) (terms_written sig o.before) (outer_open sig os) (terms_open sig o.before)) one in
+    both_open (length os + 0) 1 (open_written sig os ++ terms_written sig o.before) (opening ∷ h ∷ [])
+    (both_open (length os) 0 (open_written sig os) (terms_written sig o.before) (outer_open sig os) (terms_open sig o.before)) one in
     omega arith
 
 -- the most that may be open where such a token, and then, may come
@@ -114,23 +114,23 @@ owed (heading s w row outer) = suc (suc (length outer))
 
 count : (sn : List ℕ) (cs : List Command) (n : ℕ) (ts us : List Token) → ts ≡ base sn cs ++ us → Open n us → Open n ts
 count sn cs n ts us e p =
-    let x : opens ts ≡ opens (base sn cs) + opens us = ap opens e ∙ opens-append (base sn cs) us in
+    let x : opens ts ≡ opens (base sn cs) + opens us = ap opens e ∙ opens_append (base sn cs) us in
     let y : closes ts ≡ closes (base sn cs) + closes us = ap closes e ∙ closes_append (base sn cs) us in
     let b = base_open sn cs in
     omega arith
 
 inside_open : (sn : List ℕ) (cs : List Command) (row : Terms) (outer : List Opened)
-    → Open (suc (length outer)) (opening ∷ ASSERT ∷ openWritten (symbols_in cs) outer ++ terms_written (symbols_in cs) row)
+    → Open (suc (length outer)) (opening ∷ ASSERT ∷ open_written (symbols_in cs) outer ++ terms_written (symbols_in cs) row)
 inside_open sn cs row outer =
-    let e = both_open (length outer) 0 (openWritten (symbols_in cs) outer) (terms_written (symbols_in cs) row) (outer_open (symbols_in cs) outer) (terms_open (symbols_in cs) row) in
+    let e = both_open (length outer) 0 (open_written (symbols_in cs) outer) (terms_written (symbols_in cs) row) (outer_open (symbols_in cs) outer) (terms_open (symbols_in cs) row) in
     omega arith
 
 pub heading_open : (sn : List ℕ) (cs : List Command) (s : Sort) (w : Wanted) (row : Terms) (outer : List Opened) (ts : List Token)
     → Inv sn cs (heading s w row outer) ts → Open (suc (suc (length outer))) ts
 heading_open sn cs s w row outer ts i =
-    let Y : List Token = opening ∷ ASSERT ∷ openWritten (symbols_in cs) outer ++ terms_written (symbols_in cs) row in
+    let Y : List Token = opening ∷ ASSERT ∷ open_written (symbols_in cs) outer ++ terms_written (symbols_in cs) row in
     let e = inside_open sn cs row outer in
-    let p = opens-append Y (opening ∷ []) in
+    let p = opens_append Y (opening ∷ []) in
     let q = closes_append Y (opening ∷ []) in
     count sn cs (suc (suc (length outer))) ts (snoc Y opening) i.3 (omega arith)
 
@@ -138,7 +138,7 @@ heading_open sn cs s w row outer ts i =
 pub inv_upper : (sn : List ℕ) (cs : List Command) (stage : Stage) (ts : List Token) → Inv sn cs stage ts → opens ts ≤ closes ts + owed stage
 inv_upper sn cs (exact x then) ts i =
     let h = inv_upper sn cs then (snoc ts x) i in
-    let p = opens-append ts (x ∷ []) in
+    let p = opens_append ts (x ∷ []) in
     let q = closes_append ts (x ∷ []) in
     omega arith
 inv_upper sn cs naming ts i = let p : opens ts ≡ 2 = ap opens i.1 in let q : closes ts ≡ 1 = ap closes i.1 in omega arith
@@ -152,11 +152,11 @@ inv_upper sn cs (taking name k) ts i =
 inv_upper sn cs (giving name k) ts i =
     let r = names_open k sn in
     let X = opening ∷ DECLARE ∷ symbol name ∷ opening ∷ replicate k (symbol sn) in
-    let p = opens-append X (closing ∷ []) in
+    let p = opens_append X (closing ∷ []) in
     let q = closes_append X (closing ∷ []) in
     let e = count sn cs 1 ts (snoc X closing) i.3 (omega arith) in
     omega arith
-inv_upper sn cs (inside w row outer) ts i = let e = count sn cs (suc (length outer)) ts (opening ∷ ASSERT ∷ openWritten (symbols_in cs) outer ++ terms_written (symbols_in cs) row) i.2 (inside_open sn cs row outer) in omega arith
+inv_upper sn cs (inside w row outer) ts i = let e = count sn cs (suc (length outer)) ts (opening ∷ ASSERT ∷ open_written (symbols_in cs) outer ++ terms_written (symbols_in cs) row) i.2 (inside_open sn cs row outer) in omega arith
 inv_upper sn cs (heading s w row outer) ts i = let e = heading_open sn cs s w row outer ts i in omega arith
 
 -- a state deeper than 64 has more than 65 brackets open
@@ -169,6 +169,6 @@ inv_deep sn cs finished ts i h = absurd (omega arith)
 inv_deep sn cs (taking name k) ts i h = absurd (omega arith)
 inv_deep sn cs (giving name k) ts i h = absurd (omega arith)
 inv_deep sn cs (inside w row outer) ts i h =
-    let e = count sn cs (suc (length outer)) ts (opening ∷ ASSERT ∷ openWritten (symbols_in cs) outer ++ terms_written (symbols_in cs) row) i.2 (inside_open sn cs row outer) in
+    let e = count sn cs (suc (length outer)) ts (opening ∷ ASSERT ∷ open_written (symbols_in cs) outer ++ terms_written (symbols_in cs) row) i.2 (inside_open sn cs row outer) in
     omega arith
 inv_deep sn cs (heading s w row outer) ts i h = let e = heading_open sn cs s w row outer ts i in omega arith

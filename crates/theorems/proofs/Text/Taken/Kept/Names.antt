@@ -16,7 +16,7 @@ use Rattle.theorems.proofs.Text.Taken.Spelling.{spellable}
 use Rattle.theorems.proofs.Text.Taken.Lexed.{lexed}
 use Rattle.theorems.proofs.Text.Taken.Finished.Constants.{named_in_bars}
 use Rattle.theorems.proofs.Text.Taken.Finished.Finishing.{CanAt}
-use Rattle.theorems.proofs.Text.Taken.Kept.Invariant.{base, openWritten, Inv}
+use Rattle.theorems.proofs.Text.Taken.Kept.Invariant.{base, open_written, Inv}
 
 -- a declaration writes its name
 commands_names : (sn : List ℕ) (sig : List Symbol) (cs : List Command) → all spellable (commands_written sn sig cs) ≡ true → all named_in_bars (symbols_in cs) ≡ true
@@ -95,11 +95,11 @@ base_right : (sn : List ℕ) (cs : List Command) (ts us : List Token) → ts ≡
 base_right sn cs ts us e b =
     ap (all not_wrong) e ∙ all_append not_wrong (base sn cs) us (commands_right_lem sn [] cs) b
 
-outer_right : (sig : List Symbol) (outer : List Opened) → all not_wrong (openWritten sig outer) ≡ true
+outer_right : (sig : List Symbol) (outer : List Opened) → all not_wrong (open_written sig outer) ≡ true
 outer_right sig [] = refl
 outer_right sig (o ∷ os) =
-    all_append not_wrong (openWritten sig os ++ terms_written sig o.before) (opening ∷ head_token sig o.head ∷ [])
-    (all_append not_wrong (openWritten sig os) (terms_written sig o.before) (outer_right sig os) (terms_right_lem sig o.before))
+    all_append not_wrong (open_written sig os ++ terms_written sig o.before) (opening ∷ head_token sig o.head ∷ [])
+    (all_append not_wrong (open_written sig os) (terms_written sig o.before) (outer_right sig os) (terms_right_lem sig o.before))
     (rw (head_right_lem sig o.head))
 
 -- so no wrong token is taken
@@ -114,11 +114,11 @@ state_right sn cs (giving name k) ts i =
     base_right sn cs ts _ i.3 (all_append not_wrong (replicate k (symbol sn)) (closing ∷ []) (all_replicate not_wrong k (symbol sn) refl) refl)
 state_right sn cs (inside w row outer) ts i =
     base_right sn cs ts _ i.2
-    (all_append not_wrong (openWritten (symbols_in cs) outer) (terms_written (symbols_in cs) row) (outer_right (symbols_in cs) outer) (terms_right_lem (symbols_in cs) row))
+    (all_append not_wrong (open_written (symbols_in cs) outer) (terms_written (symbols_in cs) row) (outer_right (symbols_in cs) outer) (terms_right_lem (symbols_in cs) row))
 state_right sn cs (heading s w row outer) ts i =
     base_right sn cs ts _ i.3
-    (all_append not_wrong (openWritten (symbols_in cs) outer ++ terms_written (symbols_in cs) row) (opening ∷ [])
-    (all_append not_wrong (openWritten (symbols_in cs) outer) (terms_written (symbols_in cs) row) (outer_right (symbols_in cs) outer) (terms_right_lem (symbols_in cs) row)) refl)
+    (all_append not_wrong (open_written (symbols_in cs) outer ++ terms_written (symbols_in cs) row) (opening ∷ [])
+    (all_append not_wrong (open_written (symbols_in cs) outer) (terms_written (symbols_in cs) row) (outer_right (symbols_in cs) outer) (terms_right_lem (symbols_in cs) row)) refl)
 
 -- and what is taken of a text can be spelled
 right_spelled : (ts : List Token) → all lexed ts ≡ true → all not_wrong ts ≡ true → all spellable ts ≡ true

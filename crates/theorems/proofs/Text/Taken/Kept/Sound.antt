@@ -14,7 +14,7 @@ use Rattle.definitions.specs.Text.Grammar.{Symbol, Head, Terms, end, Command, as
 use Rattle.definitions.specs.Text.Reader.{Opened, Stage, exact, naming, commanding, declaring, finished, taking, giving, inside, heading, State, start, goes, added, put, closed, begun, step_at, step, is_finished, script_of}
 use Rattle.definitions.specs.Text.Heads.{heads, inhabited, names, bare, bracketed}
 use Rattle.theorems.proofs.Text.Taken.Runs.{same_token_lem, runs, first_passes}
-use Rattle.theorems.proofs.Text.Taken.Kept.Invariant.{remaining, row_whole, written_put, right_snoc, base, base_snoc, openWritten, ASSERT, Inv, stack_put, in-brackets}
+use Rattle.theorems.proofs.Text.Taken.Kept.Invariant.{remaining, row_whole, written_put, right_snoc, base, base_snoc, open_written, ASSERT, Inv, stack_put, in_brackets}
 use Rattle.theorems.proofs.Text.Taken.Kept.Commands.{InvS, arrive, onto, keep_exact, keep_naming, keep_commanding, keep_declaring, keep_taking, keep_giving}
 
 sort_same : (s r : Sort) → same_sort r s ≡ true → same_sort s r ≡ true
@@ -35,7 +35,7 @@ module _ (st y : State) (t : Token) (ts : List Token) where
 
   -- the tokens of what is open
   abbrev opened : Terms → List Opened → List Token
-  opened row outer = openWritten sig outer ++ terms_written sig row
+  opened row outer = open_written sig outer ++ terms_written sig row
 
   -- what `names` says
   wanted_of_lem : (s : Sort) (w : Wanted) (h : Head) → next w ≡ some s → same_sort (sort_of_head h) s ≡ true → is_wanted (next w) (sort_of_head h) ≡ true
@@ -66,9 +66,9 @@ module _ (st y : State) (t : Token) (ts : List Token) where
             stack_put sig w row outer h end i.1 k.right (wanted_of_lem s w h n k.sort) (and_right (names sig s t h) (ready (wanted_by sig h)) q),
             onto (base sn cs) (opening ∷ ASSERT ∷ opened row outer) ts t i.2
                 ∙ ap (λ (l : List Token). base sn cs ++ (opening ∷ ASSERT ∷ l))
-                (append_assoc (openWritten sig outer) (terms_written sig row) (t ∷ [])
-                ∙ ap (λ (u : Token). openWritten sig outer ++ (terms_written sig row ++ (u ∷ []))) k.token
-                ∙ ap (λ (l : List Token). openWritten sig outer ++ l) (sym (written_put sig row h end))),
+                (append_assoc (open_written sig outer) (terms_written sig row) (t ∷ [])
+                ∙ ap (λ (u : Token). open_written sig outer ++ (terms_written sig row ++ (u ∷ []))) k.token
+                ∙ ap (λ (l : List Token). open_written sig outer ++ l) (sym (written_put sig row h end))),
           )
 
       found : (h? : Option Head) → bare sig s t ≡ h?
@@ -112,7 +112,7 @@ module _ (st y : State) (t : Token) (ts : List Token) where
       inner o os r i =
           let v = wanted_by sig o.head in
           let full : ready (remaining v row) ≡ true = ap ready (sym i.1.1) ∙ r in
-          let O : List Token = openWritten sig os in
+          let O : List Token = open_written sig os in
           let B : List Token = terms_written sig o.before in
           let P : List Token = opening ∷ head_token sig o.head ∷ [] in
           let R : List Token = terms_written sig row in (
@@ -123,7 +123,7 @@ module _ (st y : State) (t : Token) (ts : List Token) where
                 (append_assoc (O ++ B ++ P) R (closing ∷ [])
                 ∙ append_assoc (O ++ B) P (snoc R closing)
                 ∙ append_assoc O B (P ++ snoc R closing)
-                ∙ ap (λ (l : List Token). O ++ (B ++ l)) (sym (in-brackets (head_token sig o.head) v row R i.1.4 full))
+                ∙ ap (λ (l : List Token). O ++ (B ++ l)) (sym (in_brackets (head_token sig o.head) v row R i.1.4 full))
                 ∙ ap (λ (l : List Token). O ++ l) (sym (written_put sig o.before o.head row))),
           )
 
@@ -163,7 +163,7 @@ module _ (st y : State) (t : Token) (ts : List Token) where
           let B = not (ready (wanted_by sig h)) in
           let ab = and_left (A && B) (all (inhabited sig) (wanted_by sig h).must) q in
           let k = named_of s h (and_left A B ab) in
-          let O : List Token = openWritten sig outer in
+          let O : List Token = open_written sig outer in
           let R : List Token = terms_written sig row in (
             i.0,
             (refl, refl, k.right, wanted_of_lem s w h i.2 k.sort, not-true (ready (wanted_by sig h)) (and_right A B ab), i.1),
