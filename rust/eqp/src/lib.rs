@@ -2,7 +2,7 @@
 //!
 //! A problem is formulas of equality with uninterpreted functions, as a table of nodes in bytes; a
 //! call names the root, the formula that is asked (document 02, E2). [`host::decide`] hands both
-//! to the proved checker (`libhost.a`, made by `rt staticlib host`), which answers valid,
+//! to the proved checker (`libhost.a`, made by `.ci/archive`), which answers valid,
 //! falsified with tables that make the formula false, stopped where the budget ends first, or
 //! refused. [`reference::decide`] is a second implementation, written from documents 01 and 02
 //! alone; the tests compare the two on many generated problems. [`host::read`] and
