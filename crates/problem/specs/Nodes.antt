@@ -7,6 +7,6 @@ use Rattle.problem.specs.declared.put.Node.{Node}
 abbrev pub node_read : Node → table.Node
 node_read n = record { op = n.op; sym = n.symbol; a = n.a; b = n.b; c = n.c }
 
--- the mark, version 1, the two counts, the symbol bytes: problemBytes up to its nodes, where these are so many
+-- the mark, version 1, the two counts, the symbol bytes: problem_bytes up to its nodes, where these are so many
 abbrev pub front_bytes : List ℕ → ℕ → List ℕ
 front_bytes symbols count = EQP ++ two 1 ++ (length symbols ∷ []) ++ two count ++ symbols

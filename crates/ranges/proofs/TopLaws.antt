@@ -17,7 +17,7 @@ use Rattle.theorems.proofs.Ranges.Adequate.{length_below, get_d_below}
 pub how_many_next : (f : Variables) (u : ℕ) (b : Bool) → f u ≡ b → how_many f (u + 1) ≡ cond b 1 0 + how_many f u
 how_many_next f u b e = ap (how_many f) (add-one u) ∙ ap (λ (c : Bool). cond c 1 0 + how_many f u) e
 
--- howMany looks only below n
+-- how_many looks only below n
 pub how_many_same : (f g : Variables) (n : ℕ) → ((u : ℕ) → u < n → f u ≡ g u) → how_many f n ≡ how_many g n
 how_many_same f g zero h = refl
 how_many_same f g (suc n) h =

@@ -88,7 +88,7 @@ module _
     (written : ℕ)
     (problem' : List ℕ)
     (reading : ReadPromise text problem (Reading.Problem written) problem') where
-  -- SCRIPT: a text that is answered with a problem has a script; scriptRead says which, so there is one
+  -- SCRIPT: a text that is answered with a problem has a script; script_read says which, so there is one
   pub script_means : (s : Script) × (script_read text ≡ given s)
   script_means = script_read_lem text problem written problem' reading
 
