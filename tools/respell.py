@@ -1,12 +1,14 @@
 #!/usr/bin/env python3
 """Respells the repository's own definitions, lemmas, fields and constructors: words in snake case, as the library's.
 
-usage: tools/respell.py [--table] (at the top of the repository, once, after the kit's own script)
+usage: tools/respell.py [--table | --answers] (at the top of the repository, once, after the kit's own script)
 
 A name is respelled where it is declared in a file of specs/ or proofs/ with a small first letter. What the compiler makes, and what
-comes from src/ or from the kit, keeps its name. Two names that would fall together are told apart by TOLD_APART.
+comes from src/ or from the kit, keeps its name. Where a lemma would get a definition's name, it has _lem after it, and a field goes
+by FIELDS_TOLD_APART.
 It turns the .antt files, the clauses and `ghost use` items of .rt files, the must-fail edits, and code spans of the pages.
---table prints old and new, and writes nothing.
+--table prints old and new, and writes nothing. --answers does another thing, once the proofs hold: in each Proof.antt an answer gets the
+name of the goal that it is for.
 """
 
 import collections
@@ -114,7 +116,29 @@ def outside(pattern, text, inside, other):
     return "".join(out + [other(text[at:])])
 
 
+ANSWER = re.compile(r"^\s*(\S+) : (?:tie|lts)\.Need-(\S+)", re.M)
+
+
+def answers():
+    """Names each answer by its goal, where no other word of the file has that name."""
+    for path in files("Proof.antt"):
+        text = read(path)
+        code = COMMENT.sub("", text)
+        goals = {m[1]: m[2] for m in ANSWER.finditer(code) if m[1] != m[2]}
+        words = {m[0] for m in WORD.finditer(code) if code[m.start() - 1 : m.start()] != "."}
+        taken = words - set(goals)
+        new = {old: goal for old, goal in goals.items() if goal not in taken}
+        for old in sorted(set(goals) - set(new)):
+            print(f"respell: {path}: {old} stays, {goals[old]} is another word there")
+        turned = outside(COMMENT, text, lambda t: t, lambda t: turn(t, new, set()))
+        if turned != text:
+            with open(path, "w", encoding="utf-8") as f:
+                f.write(turned)
+
+
 def main():
+    if "--answers" in sys.argv:
+        return answers()
     new, fields = table()
     if "--table" in sys.argv:
         for old in sorted(new):

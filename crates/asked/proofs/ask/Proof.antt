@@ -4,11 +4,11 @@ use borrow.Author.Rules.{rules}
 use Rattle.asked.proofs.ask.Statement.{statement}
 use Rattle.asked.proofs.ask.Tie as tie
 
-ask-root-requires : tie.Need-ask_root-requires
-ask-root-requires c κs = table_passed c.args.root _ c.layout.ensures c.in-Fine.is
+ask_root-requires : tie.Need-ask_root-requires
+ask_root-requires c κs = table_passed c.args.root _ c.layout.ensures c.in-Fine.is
 
-returns : tie.Need-returns-in-Bad
-returns c = table_refused c.args.root _ c.layout.ensures c.in-Bad.is
+returns-in-Bad : tie.Need-returns-in-Bad
+returns-in-Bad c = table_refused c.args.root _ c.layout.ensures c.in-Bad.is
 
 pub ask_spec : {M : Type 1} → statement M
 ask_spec =
@@ -17,6 +17,6 @@ ask_spec =
     (λ c κs. search rules)
     (λ c. search rules)
     (λ c. search rules)
-    ask-root-requires
-    returns
+    ask_root-requires
+    returns-in-Bad
     (λ c. search rules))

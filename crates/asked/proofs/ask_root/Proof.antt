@@ -13,14 +13,14 @@ root_named c =
     let p = c.requires in
     is_named _ p.0 p.1 (omega arith) (sym c.is_term.ensures ∙ c.if-is_term.false)
 
-returns : tie.Need-returns-then-header-root
-returns c = let p = c.requires in no_node _ p.0 p.1 (omega arith)
+returns-then-header-root : tie.Need-returns-then-header-root
+returns-then-header-root c = let p = c.requires in no_node _ p.0 p.1 (omega arith)
 
-is-term-requires : tie.Need-is_term-requires
-is-term-requires c κs = (c.requires.0, omega arith)
+is_term-requires : tie.Need-is_term-requires
+is_term-requires c κs = (c.requires.0, omega arith)
 
-returns_2 : tie.Need-returns-then-is_term
-returns_2 c =
+returns-then-is_term : tie.Need-returns-then-is_term
+returns-then-is_term c =
     let p = c.requires in
     no_formula _ p.0 p.1 (omega arith) (sym c.is_term.ensures ∙ c.if-is_term.true)
 
@@ -29,23 +29,23 @@ reach-requires c κs =
     let p = c.requires in
     (p.0, p.1, omega arith, refl)
 
-returns_3 : tie.Need-returns-then-reach-header
-returns_3 c =
+returns-then-reach-header : tie.Need-returns-then-reach-header
+returns-then-reach-header c =
     let p = c.requires in
     let small = c.shared_slice_known-1.given in
     whole_asked p.0 (root_named c.before.before.before.before.before) (λ i. omega (arith, small i)) c.reach.ensures (omega arith)
 
-returns_4 : tie.Need-returns
-returns_4 c = (root_named c.before.before.before.before.before, c.requires.0)
+returns : tie.Need-returns
+returns c = (root_named c.before.before.before.before.before, c.requires.0)
 
 pub ask_root_spec : {M : Type 1} → statement M
 ask_root_spec =
     tie.close
     (tie.spec
-    returns
-    is-term-requires
-    returns_2
+    returns-then-header-root
+    is_term-requires
+    returns-then-is_term
     (λ c. search rules)
     reach-requires
-    returns_3
-    returns_4)
+    returns-then-reach-header
+    returns)

@@ -15,16 +15,16 @@ use Rattle.asked.proofs.check.Tie as tie
 counts-requires : tie.Need-counts-requires
 counts-requires c κs = (ask_whole c.args.root _ c.ask.ensures c.in-Whole.is).2
 
-trim-requires : tie.Need-trim-part-requires
-trim-requires c κs =
+trim-part-requires : tie.Need-trim-part-requires
+trim-part-requires c κs =
     let part = ask_part c.args.root _ c.ask.ensures c.in-Part.is in
     (part.0, part.1, length_long)
   where
     length_long : 2088 ≤ length (lib.ListN.replicate {A = ℕ} 2088 0)
     length_long = let l = length-replicate {A = ℕ} 2088 0 in omega arith
 
-size-requires : tie.Need-size-end-requires
-size-requires c κs = let w = c.trim-part.ensures.shape in (w.few_symbols, w.few_nodes)
+size-end-requires : tie.Need-size-end-requires
+size-end-requires c κs = let w = c.trim-part.ensures.shape in (w.few_symbols, w.few_nodes)
 
 -- it is no longer than the room
 fits : (c : tie.After-size-end) → c.size-end.result ≤ length c.trim-part.new.room
@@ -33,29 +33,29 @@ fits c =
     let kept = c.trim-part.auto.room in
     omega (arith, c.size-end.ensures, w.few_symbols, w.few_nodes, length-replicate {A = ℕ} 2088 0)
 
-array-share-prefix-room : tie.Need-slice_bounds-room-end
-array-share-prefix-room c = fits c
+slice_bounds-room-end : tie.Need-slice_bounds-room-end
+slice_bounds-room-end c = fits c
 
 -- the problem asked stands at the start of the room
 asked_is : (c : tie.After-room-in-Part-2-1) → take c.size-end.result c.trim-part.new.room ≡ asked c.args.problem.now c.args.root
 asked_is c = ap (λ (n : ℕ). take n c.trim-part.new.room) c.size-end.ensures ∙ c.trim-part.ensures.bytes
 
-slice-aggregate-counts : tie.Need-slice_bounds-counts-end
-slice-aggregate-counts c = sym (length-take-le _ _ (fits c.before))
+slice_bounds-counts-end : tie.Need-slice_bounds-counts-end
+slice_bounds-counts-end c = sym (length-take-le _ _ (fits c.before))
 
-counts-requires-2 : tie.Need-counts-requires-in-Part
-counts-requires-2 c κs =
+counts-requires-in-Part : tie.Need-counts-requires-in-Part
+counts-requires-in-Part c κs =
     subst (λ (a : List ℕ). Shaped a c.trim-part.result) (sym (asked_is c)) c.trim-part.ensures.shape
 
-returns : tie.Need-returns-in-Refused
-returns c = check_refused _ c.args.root _ (ask_refused c.args.root _ c.ask.ensures c.in-Refused.is)
+returns-in-Refused : tie.Need-returns-in-Refused
+returns-in-Refused c = check_refused _ c.args.root _ (ask_refused c.args.root _ c.ask.ensures c.in-Refused.is)
 
-returns_2 : tie.Need-returns-in-Whole
-returns_2 c =
+returns-in-Whole : tie.Need-returns-in-Whole
+returns-in-Whole c =
     check_counted (ask_whole c.args.root _ c.ask.ensures c.in-Whole.is).0 c.counts.ensures
 
-returns_3 : tie.Need-returns-in-Part
-returns_3 c =
+returns-in-Part : tie.Need-returns-in-Part
+returns-in-Part c =
     let part = ask_part c.args.root _ c.ask.ensures c.in-Part.is in
     check_counted (itself _ _ _ part.0 (asked_is c.before)) c.counts-in-Part.ensures
 
@@ -69,11 +69,11 @@ check_spec =
     counts-requires
     (λ c. search rules)
     (λ c. search rules)
-    trim-requires
-    size-requires
-    array-share-prefix-room
-    slice-aggregate-counts
-    counts-requires-2
-    returns
-    returns_2
-    returns_3)
+    trim-part-requires
+    size-end-requires
+    slice_bounds-room-end
+    slice_bounds-counts-end
+    counts-requires-in-Part
+    returns-in-Refused
+    returns-in-Whole
+    returns-in-Part)

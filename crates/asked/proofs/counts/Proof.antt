@@ -4,21 +4,21 @@ use borrow.Author.Rules.{rules}
 use Rattle.asked.proofs.counts.Statement.{statement}
 use Rattle.asked.proofs.counts.Tie as tie
 
-returns : tie.Need-returns-then-functions-gt24
-returns c = record { answers = many_functions c.args.asked.now c.distinct-functions.ensures c.if-functions-gt24.true }
+returns-then-functions-gt24 : tie.Need-returns-then-functions-gt24
+returns-then-functions-gt24 c = record { answers = many_functions c.args.asked.now c.distinct-functions.ensures c.if-functions-gt24.true }
 
-returns_2 : tie.Need-returns-then-predicates-gt16
-returns_2 c = record { answers = many_predicates c.args.asked.now c.distinct-functions.ensures c.if-functions-gt24.false c.distinct-predicates.ensures c.if-predicates-gt16.true }
+returns-then-predicates-gt16 : tie.Need-returns-then-predicates-gt16
+returns-then-predicates-gt16 c = record { answers = many_predicates c.args.asked.now c.distinct-functions.ensures c.if-functions-gt24.false c.distinct-predicates.ensures c.if-predicates-gt16.true }
 
-returns_3 : tie.Need-returns
-returns_3 c = record { answers = within_limits_lem c.args.asked.now c.distinct-functions.ensures c.if-functions-gt24.false c.distinct-predicates.ensures c.if-predicates-gt16.false }
+returns : tie.Need-returns
+returns c = record { answers = within_limits_lem c.args.asked.now c.distinct-functions.ensures c.if-functions-gt24.false c.distinct-predicates.ensures c.if-predicates-gt16.false }
 
 pub counts_spec : {M : Type 1} → statement M
 counts_spec =
     tie.close
     (tie.spec
     (λ c κs. search rules)
-    returns
+    returns-then-functions-gt24
     (λ c κs. search rules)
-    returns_2
-    returns_3)
+    returns-then-predicates-gt16
+    returns)

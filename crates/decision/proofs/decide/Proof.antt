@@ -17,17 +17,17 @@ use borrow.Author.Rules.{rules}
 use Rattle.decision.proofs.decide.Statement.{statement}
 use Rattle.decision.proofs.decide.Tie as tie
 
-decide-asked-requires : tie.Need-decide_asked-requires
-decide-asked-requires c κs =
+decide_asked-requires : tie.Need-decide_asked-requires
+decide_asked-requires c κs =
     let whole = ask_whole c.args.root _ c.ask.ensures c.in-Whole.is in (whole.1, whole.2)
 
-trim-requires : tie.Need-trim-part-requires
-trim-requires c κs =
+trim-part-requires : tie.Need-trim-part-requires
+trim-part-requires c κs =
     let part = ask_part c.args.root _ c.ask.ensures c.in-Part.is in
     (part.0, part.1, omega (arith, length-replicate {A = ℕ} 2088 0))
 
-size-requires : tie.Need-size-end-requires
-size-requires c κs = let w = c.trim-part.ensures.shape in (w.few_symbols, w.few_nodes)
+size-end-requires : tie.Need-size-end-requires
+size-end-requires c κs = let w = c.trim-part.ensures.shape in (w.few_symbols, w.few_nodes)
 
 -- the part is no longer than the room
 fits : (c : tie.After-size-end) → c.size-end.result ≤ length c.trim-part.new.room
@@ -36,35 +36,35 @@ fits c =
     let kept = c.trim-part.auto.room in
     omega (arith, c.size-end.ensures, w.few_symbols, w.few_nodes, length-replicate {A = ℕ} 2088 0)
 
-array-share-prefix-room : tie.Need-slice_bounds-room-end
-array-share-prefix-room c = fits c
+slice_bounds-room-end : tie.Need-slice_bounds-room-end
+slice_bounds-room-end c = fits c
 
 -- and stands at its start
 asked_is : (c : tie.After-room-in-Part-2-1) → take c.size-end.result c.trim-part.new.room ≡ asked c.args.problem.now c.args.root
 asked_is c = ap (λ (n : ℕ). take n c.trim-part.new.room) c.size-end.ensures ∙ c.trim-part.ensures.bytes
 
-slice-aggregate-decide-asked : tie.Need-slice_bounds-decide_asked-end
-slice-aggregate-decide-asked c = sym (length-take-le _ _ (fits c.before))
+slice_bounds-decide_asked-end : tie.Need-slice_bounds-decide_asked-end
+slice_bounds-decide_asked-end c = sym (length-take-le _ _ (fits c.before))
 
-decide-asked-requires-2 : tie.Need-decide_asked-requires-in-Part
-decide-asked-requires-2 c κs =
+decide_asked-requires-in-Part : tie.Need-decide_asked-requires-in-Part
+decide_asked-requires-in-Part c κs =
     let part = ask_part c.args.root _ c.ask.ensures c.in-Part.is in
     let is = sym (asked_is c.before.before) in (
       subst Formed is (asked_formed _ _ part.0),
       subst (λ (a : List ℕ). Shaped a c.trim-part.result) is c.trim-part.ensures.shape,
     )
 
-returns : tie.Need-returns-in-Refused
-returns c =
+returns-in-Refused : tie.Need-returns-in-Refused
+returns-in-Refused c =
     let refused = ask_refused c.args.root _ c.ask.ensures c.in-Refused.is in
     decide_refused _ _ _ _ _ _ (refused_early _ _ _ _ _ (refused_first _ _ _ _ (root_refused _ c.args.root _ refused)))
 
-returns_2 : tie.Need-returns-in-Whole
-returns_2 c =
+returns-in-Whole : tie.Need-returns-in-Whole
+returns-in-Whole c =
     c.decide_asked.ensures _ _ (ask_whole c.args.root _ c.ask.ensures c.in-Whole.is).0
 
-returns_3 : tie.Need-returns-in-Part
-returns_3 c =
+returns-in-Part : tie.Need-returns-in-Part
+returns-in-Part c =
     let part = ask_part c.args.root _ c.ask.ensures c.in-Part.is in
     c.decide_asked-in-Part.ensures _ _ (itself _ _ _ part.0 (asked_is c.before.before.before.before.before.before.before))
 
@@ -75,18 +75,18 @@ decide_spec =
     (λ c κs. search rules)
     (λ c. search rules)
     (λ c. search rules)
-    decide-asked-requires
+    decide_asked-requires
     (λ c. search rules)
     (λ c. search rules)
-    trim-requires
-    size-requires
-    array-share-prefix-room
-    slice-aggregate-decide-asked
-    decide-asked-requires-2
-    returns
+    trim-part-requires
+    size-end-requires
+    slice_bounds-room-end
+    slice_bounds-decide_asked-end
+    decide_asked-requires-in-Part
+    returns-in-Refused
     (λ c. search rules)
     (λ c. search rules)
-    returns_2
+    returns-in-Whole
     (λ c. search rules)
     (λ c. search rules)
-    returns_3)
+    returns-in-Part)

@@ -8,27 +8,27 @@ use Rattle.decision.proofs.decide_asked.Tie as tie
 counts-requires : tie.Need-counts-requires
 counts-requires c κs = c.requires.1
 
-returns : tie.Need-returns-then-work-lt21056
-returns c s root A =
+returns-then-work-lt21056 : tie.Need-returns-then-work-lt21056
+returns-then-work-lt21056 c s root A =
     let none = not_refused c.counts.ensures c.in-Accepted.is in
     decide_refused _ s root _ _ _ (refused_early s root _ _ _ (refused_short A _ none c.if-work-lt21056.true))
 
-returns_2 : tie.Need-returns-then-witness-lt206
-returns_2 c s root A =
+returns-then-witness-lt206 : tie.Need-returns-then-witness-lt206
+returns-then-witness-lt206 c s root A =
     let none = not_refused c.counts.ensures c.in-Accepted.is in
     decide_refused _ s root _ _ _ (refused_witness s root _ _ (taken A _ none c.if-work-lt21056.false) c.if-witness-lt206.true)
 
-lay-and-search-requires : tie.Need-lay_and_search-requires
-lay-and-search-requires c κs =
+lay_and_search-requires : tie.Need-lay_and_search-requires
+lay_and_search-requires c κs =
     let p = c.requires in
     (p.0, p.1, not_refused c.counts.ensures c.in-Accepted.is, c.if-work-lt21056.false, c.if-witness-lt206.false)
 
-returns_3 : tie.Need-returns-in-Refused
-returns_3 c s root A =
+returns-in-Refused : tie.Need-returns-in-Refused
+returns-in-Refused c s root A =
     decide_refused _ s root _ _ _ (refused_early s root _ _ _ (refused_limit A _ _ (refused_by c.counts.ensures c.in-Refused.is)))
 
-returns_4 : tie.Need-returns-else-witness-lt206
-returns_4 c = c.lay_and_search.ensures
+returns-else-witness-lt206 : tie.Need-returns-else-witness-lt206
+returns-else-witness-lt206 c = c.lay_and_search.ensures
 
 pub decide_asked_spec : {M : Type 1} → statement M
 decide_asked_spec =
@@ -37,10 +37,10 @@ decide_asked_spec =
     counts-requires
     (λ c. search rules)
     (λ c. search rules)
-    returns
-    returns_2
-    lay-and-search-requires
-    returns_3
+    returns-then-work-lt21056
+    returns-then-witness-lt206
+    lay_and_search-requires
+    returns-in-Refused
     (λ c. search rules)
     (λ c. search rules)
-    returns_4)
+    returns-else-witness-lt206)

@@ -29,8 +29,8 @@ module _ (c : tie.Start) where
   fits : {s : List ℕ} {root : ℕ} → Asks s root bytes → buffers_refusal s root (length c.args.work.now) (length c.args.witness.now) ≡ none
   fits {s} {root} A = buffers_taken s root _ _ (taken A _ c.requires.2 c.requires.3) c.requires.4
 
-lay-table-requires : tie.Need-lay_table-all-requires
-lay-table-requires c κs = (
+lay_table-all-requires : tie.Need-lay_table-all-requires
+lay_table-all-requires c κs = (
   ok c.before.before.before.before.before.before.before,
   c.requires.1,
   c.requires.3,
@@ -50,8 +50,8 @@ module _ (c : tie.After-lay_table-all) where
   long : 21056 ≤ length work'
   long = let room = start.requires.3 in let same = c.lay_table-all.auto.work in omega arith
 
-measure-requires : tie.Need-measure-spans-requires
-measure-requires c κs =
+measure-spans-requires : tie.Need-measure-spans-requires
+measure-spans-requires c κs =
     let l = c.before.before.before.before.before.before in
     rw c.shape_of.ensures (table_stands (bytes (start l)) (ok (start l)) l.lay_table-all.ensures (long l))
 
@@ -89,15 +89,15 @@ search-requires c κs =
       s.requires.4,
     )
 
-returns : tie.Need-returns-in-Big
-returns c s root A =
+returns-in-Big : tie.Need-returns-in-Big
+returns-in-Big c s root A =
     let m = c.before.before in
     let f = first m in
     decide_big f.args.budget A f.args.work.now f.args.witness.now (fits f A) (table_laid (bytes f) (ok f) (laid m).lay_table-all.ensures)
     (subst (ProductIs (product (bytes f))) c.in-Big.is (product_is m))
 
-returns_2 : tie.Need-returns-in-Of
-returns_2 c s root A =
+returns-in-Of : tie.Need-returns-in-Of
+returns-in-Of c s root A =
     let m = c.before.before.before.before.before.before.before.before in
     let f = first m in
     let is = subst (ProductIs (product (bytes f))) c.in-Of.is (product_is m) in
@@ -111,16 +111,16 @@ lay_and_search_spec =
     (λ c. search rules)
     (λ c. search rules)
     (λ c. search rules)
-    lay-table-requires
+    lay_table-all-requires
     (λ c κs. search rules)
-    measure-requires
+    measure-spans-requires
     (λ c. search rules)
     (λ c. search rules)
     (λ c. search rules)
     (λ c. search rules)
     search-requires
     (λ c. search rules)
-    returns
+    returns-in-Big
     (λ c. search rules)
     (λ c. search rules)
-    returns_2)
+    returns-in-Of)

@@ -8,8 +8,8 @@ use Rattle.decision.proofs.SearchLaws.{stands}
 use Rattle.decision.proofs.search.Statement.{statement}
 use Rattle.decision.proofs.search.Tie as tie
 
-search-in-requires-2 : tie.Need-search_in-requires-2
-search-in-requires-2 c κs =
+search_in-requires-2 : tie.Need-search_in-requires-2
+search_in-requires-2 c κs =
     let s = c.before.before.before.before.before.before.before.before.before.before in
     let few = (stands s.requires.0).few_nodes in
     let room = length-replicate {A = ℕ} 2632 0 in
@@ -24,6 +24,6 @@ search_spec =
     (λ c. search rules)
     (λ c. search rules)
     (λ c. search rules)
-    search-in-requires-2
+    search_in-requires-2
     (λ c. search rules)
     (λ c. search rules))

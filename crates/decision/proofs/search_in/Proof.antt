@@ -1,5 +1,5 @@
 -- The search answers the outcome: the walk has tried the places in order, and the witness is that of the last where it is false.
--- Assumes nothing.
+-- What the budget's test says is found by `omega`, and not by the test's name. Assumes nothing.
 use borrow.Author.Rules.{rules}
 use native.Mathlib.Omega.{arith}
 use mathlib.Core.Path.{◌≡◌, ap, ◌∙◌, subst}
@@ -20,8 +20,8 @@ use Rattle.decision.proofs.SearchLaws.{answers_falsified, answers_valid, answers
 use Rattle.decision.proofs.search_in.Statement.{statement}
 use Rattle.decision.proofs.search_in.Tie as tie
 
-shared-slice-read-number : tie.Need-bounds-images-two_at
-shared-slice-read-number c =
+bounds-images-two_at : tie.Need-bounds-images-two_at
+bounds-images-two_at c =
     let l = c.requires.0 in
     omega (arith, l.laid.laid.images_long, l.accepted.layout.few_nodes, c.two_at.ensures.0)
 
@@ -36,20 +36,20 @@ module _ (c : tie.After-number-root) where
   root_is : root ≡ root_of (eliminated start.args.problem.now)
   root_is = c.number-root.ensures ∙ root_there start.requires.0 c.two_at.result c.two_at.ensures.0
 
-odometer-requires : tie.Need-odometer-start-requires
-odometer-requires c κs =
+odometer-start-requires : tie.Need-odometer-start-requires
+odometer-start-requires c κs =
     let l = (start c.before).requires.0 in
     rw c.shape_of-shape.ensures (tops_long l, few_variables l, few_truths l, tops_low l)
 
-walk-requires : tie.Need-walk-walked-requires
-walk-requires c κs =
+walk-walked-requires : tie.Need-walk-walked-requires
+walk-walked-requires c κs =
     let read = c.before.before.before in
     let l = (start read).requires.0 in
     let e = c.shape_of-shape.ensures in
     (rw e (stands l), rw e (root_in l (root read) (root_is read)), c.odometer-start.ensures.0, rw e (start read).requires.2)
 
-write-witness-requires : tie.Need-write_witness-written-requires
-write-witness-requires c κs =
+write_witness-written-requires : tie.Need-write_witness-written-requires
+write_witness-written-requires c κs =
     let s = c.before.before.before.before.before.before.before.before.before.before.before.before.before.before.before.before.before.before.before in
     let room = s.requires.2 in
     let same = c.walk-walked.auto.values in
@@ -85,24 +85,14 @@ module _ (c : tie.After-walk-walked) where
       → Ends (root_true (start read).args.table.now (shape_of scope.all) (root read) (sizes_in o)) limit c.walk-walked.result.tried b
   ended b e = subst (Ends _ _ _) e walk_is.ends
 
-returns : tie.Need-returns-then-walked
-returns c =
+returns-then-walked : tie.Need-returns-then-walked
+returns-then-walked c =
     let w = c.before.before.before.before.before.before.before in
     let false-there : w.walk-walked.result.falsified ≡ true = c.if-walked.true in
     let tried = w.walk-walked.result.tried in
     let vals = values_left (l w) (o w) (sizes_same w) _ (root_is (read w)) tried _ ((walk_is w).values_are false-there) in
     let written = c.write_witness-written.ensures tried vals in
     answers_falsified (l w) (o w) (sizes_same w) _ (root_is (read w)) _ _ tried (limit_is w) _ (ended w true false-there) _ _ written.1 written.0
-
-returns_2 : tie.Need-returns-then-product-budget
-returns_2 c =
-    let w = c.before.before.before.before in
-    answers_valid (l w) (o w) (sizes_same w) _ (root_is (read w)) _ _ _ (limit_is w) _ (ended w false c.if-walked.false) c.if-product-budget.true
-
-returns_3 : tie.Need-returns
-returns_3 c =
-    let w = c.before.before.before.before in
-    answers_stopped (l w) (o w) (sizes_same w) _ (root_is (read w)) _ _ _ (limit_is w) _ (ended w false c.if-walked.false) c.if-product-budget.false
 
 pub search_in_spec : {M : Type 1} → statement M
 search_in_spec =
@@ -111,16 +101,20 @@ search_in_spec =
     (λ c κs. search rules)
     (λ c. search rules)
     (λ c. search rules)
-    shared-slice-read-number
+    bounds-images-two_at
     (λ c κs. search rules)
     (λ c κs. search rules)
-    odometer-requires
-    walk-requires
-    write-witness-requires
+    odometer-start-requires
+    walk-walked-requires
+    write_witness-written-requires
     (λ c. search rules)
     (λ c. search rules)
-    returns
+    returns-then-walked
     (λ c. search rules)
-    returns_2
+    (λ c.
+    let w = c.before.before.before.before in
+    answers_valid (l w) (o w) (sizes_same w) _ (root_is (read w)) _ _ _ (limit_is w) _ (ended w false c.if-walked.false) (omega arith))
     (λ c. search rules)
-    returns_3)
+    (λ c.
+    let w = c.before.before.before.before in
+    answers_stopped (l w) (o w) (sizes_same w) _ (root_is (read w)) _ _ _ (limit_is w) _ (ended w false c.if-walked.false) (omega arith)))

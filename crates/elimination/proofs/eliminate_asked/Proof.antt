@@ -21,15 +21,15 @@ module _ (c : tie.In-Accepted) where
   ok : Accepted start.args.asked.now
   ok = is_accepted c.counts.ensures c.in-Accepted.is start.requires.0
 
-returns : tie.Need-returns-then-work-lt21056
-returns c s root A =
+returns-then-work-lt21056 : tie.Need-returns-then-work-lt21056
+returns-then-work-lt21056 c s root A =
     refusal_promised s root _ (refused_short A _ (not_refused c.counts.ensures c.in-Accepted.is) c.if-work-lt21056.true)
 
-sub-last : tie.Need-overflow_sub-last
-sub-last c = omega (arith, c.requires.1.some_nodes)
+overflow_sub-last : tie.Need-overflow_sub-last
+overflow_sub-last c = omega (arith, c.requires.1.some_nodes)
 
-lay-table-requires : tie.Need-lay_table-all-requires
-lay-table-requires c κs = (
+lay_table-all-requires : tie.Need-lay_table-all-requires
+lay_table-all-requires c κs = (
   ok c.before.before.before.before.before.before,
   c.requires.1,
   c.if-work-lt21056.false,
@@ -38,16 +38,16 @@ lay-table-requires c κs = (
   length-replicate {A = ℕ} 40 0,
 )
 
-array-read-number : tie.Need-bounds-images-last
-array-read-number c =
+bounds-images-last : tie.Need-bounds-images-last
+bounds-images-last c =
     let w = c.requires.1 in
     omega (arith, w.few_nodes, w.some_nodes)
 
-returns_2 : tie.Need-returns-in-Refused
-returns_2 c s root A = refusal_promised s root _ (refused_limit A _ _ (refused_by c.counts.ensures c.in-Refused.is))
+returns-in-Refused : tie.Need-returns-in-Refused
+returns-in-Refused c s root A = refusal_promised s root _ (refused_limit A _ _ (refused_by c.counts.ensures c.in-Refused.is))
 
-returns_3 : tie.Need-returns-else-work-lt21056
-returns_3 c s root A =
+returns-else-work-lt21056 : tie.Need-returns-else-work-lt21056
+returns-else-work-lt21056 c s root A =
     let told = c.before.before.before.before.before.before.before.before.before.before.before.before.before in
     let none = not_refused c.counts.ensures told.in-Accepted.is in
     let all = c.lay_table-all.ensures in
@@ -62,15 +62,15 @@ eliminate_asked_spec =
     counts-requires
     (λ c. search rules)
     (λ c. search rules)
-    returns
-    sub-last
+    returns-then-work-lt21056
+    overflow_sub-last
     (λ c. search rules)
     (λ c. search rules)
     (λ c. search rules)
-    lay-table-requires
+    lay_table-all-requires
     (λ c. search rules)
-    array-read-number
+    bounds-images-last
     (λ c κs. search rules)
-    returns_2
+    returns-in-Refused
     (λ c. search rules)
-    returns_3)
+    returns-else-work-lt21056)

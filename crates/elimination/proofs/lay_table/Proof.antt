@@ -25,8 +25,8 @@ invariant_loop problem header work₀ images₀ apps₀ owns₀ all₀ k₀ work
 abbrev decreases_loop : tie.decreases-loop-k
 decreases_loop problem header work₀ images₀ apps₀ owns₀ all₀ k₀ work images apps owns all k = header.nodes - k
 
-loop_holds : tie.Need-loop-k-init invariant_loop decreases_loop
-loop_holds c =
+loop-k-init : tie.Need-loop-k-init invariant_loop decreases_loop
+loop-k-init c =
     let st = c.before.before.before.before.before.before in
     let s = st.args.problem.now in
     let none = laid_none s _ _ _ st.requires.3 st.requires.4 st.requires.5 in
@@ -43,14 +43,14 @@ module _ (c : tie.At-loop-k invariant_loop decreases_loop) where
   header : Shaped bytes start.args.header
   header = start.requires.1
 
-take-node-requires : tie.Need-take_node-next-requires invariant_loop decreases_loop
-take-node-requires c κs =
+take_node-next-requires : tie.Need-take_node-next-requires invariant_loop decreases_loop
+take_node-next-requires c κs =
     let at = c.before.before.before.before.before.before in
     let p = (start at).requires in
     (p.0, header at, c.loop-k-test.true, omega (arith, p.2, at.loop-k.invariant.3), at.loop-k.invariant.1)
 
-loop_again : tie.Need-loop-k-preserved invariant_loop decreases_loop
-loop_again c =
+loop-k-preserved : tie.Need-loop-k-preserved invariant_loop decreases_loop
+loop-k-preserved c =
     let took = c.before.before.before.before.before.before.before.before in
     let at = took.before.before.before.before.before.before.before in (
       omega arith,
@@ -60,14 +60,14 @@ loop_again c =
     )
 
 -- the lists that are lent keep their lengths
-same_length_2 : tie.Need-shape_of-images invariant_loop decreases_loop
-same_length_2 c = c.loop-k.invariant.1.images_long ∙ sym (start c.before.before).requires.3
+shape_of-images : tie.Need-shape_of-images invariant_loop decreases_loop
+shape_of-images c = c.loop-k.invariant.1.images_long ∙ sym (start c.before.before).requires.3
 
-same_length_3 : tie.Need-shape_of-apps invariant_loop decreases_loop
-same_length_3 c = c.loop-k.invariant.1.apps_long ∙ sym (start c.before.before).requires.4
+shape_of-apps : tie.Need-shape_of-apps invariant_loop decreases_loop
+shape_of-apps c = c.loop-k.invariant.1.apps_long ∙ sym (start c.before.before).requires.4
 
-same_length_4 : tie.Need-shape_of-owns invariant_loop decreases_loop
-same_length_4 c = c.loop-k.invariant.1.owns_long ∙ sym (start c.before.before).requires.5
+shape_of-owns : tie.Need-shape_of-owns invariant_loop decreases_loop
+shape_of-owns c = c.loop-k.invariant.1.owns_long ∙ sym (start c.before.before).requires.5
 
 returns : tie.Need-returns invariant_loop decreases_loop
 returns c =
@@ -82,13 +82,13 @@ lay_table_spec =
     invariant_loop
     decreases_loop
     (λ c κs. search rules)
-    loop_holds
-    take-node-requires
+    loop-k-init
+    take_node-next-requires
     (λ c. search rules)
     (λ c. search rules)
-    loop_again
+    loop-k-preserved
     (λ c. search rules)
-    same_length_2
-    same_length_3
-    same_length_4
+    shape_of-images
+    shape_of-apps
+    shape_of-owns
     returns)

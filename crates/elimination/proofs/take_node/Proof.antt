@@ -61,29 +61,29 @@ module _ (c : tie.In-At) where
   earlier : j < k read
   earlier = found_before (bytes read) (start read).requires.0 (k read) (within read) j found
 
-mul-images : tie.Need-offset_bounds-images-j
-mul-images c = let r = read c in omega (arith, earlier c, (start r).requires.1.few_nodes)
+offset_bounds-images-j : tie.Need-offset_bounds-images-j
+offset_bounds-images-j c = let r = read c in omega (arith, earlier c, (start r).requires.1.few_nodes)
 
-slice-read-images : tie.Need-bounds-images-j
-slice-read-images c =
+bounds-images-j : tie.Need-bounds-images-j
+bounds-images-j c =
     let p = (start (read c.before)).requires in
     omega (arith, earlier c.before, p.1.few_nodes, p.4.images_long)
 
-mul-images-2 : tie.Need-offset_bounds-images-k
-mul-images-2 c = omega (arith, c.requires.1.few_nodes)
+offset_bounds-images-k : tie.Need-offset_bounds-images-k
+offset_bounds-images-k c = omega (arith, c.requires.1.few_nodes)
 
-slice-write-images : tie.Need-bounds-images-k
-slice-write-images c = let p = c.requires in omega (arith, p.1.few_nodes, p.4.images_long)
+bounds-images-k : tie.Need-bounds-images-k
+bounds-images-k c = let p = c.requires in omega (arith, p.1.few_nodes, p.4.images_long)
 
-add-application-requires : tie.Need-add_application-requires
-add-application-requires c κs =
+add_application-requires : tie.Need-add_application-requires
+add_application-requires c κs =
     let scan = c.before.before.before.before.before in
     let p = c.requires in
     let none = sym scan.earliest.ensures ∙ ap found_of c.in-Nothing.is in
     (p.0, p.1, p.2, p.3, p.4, applied scan.before, none)
 
-copy-node-requires : tie.Need-copy_node-requires
-copy-node-requires c κs =
+copy_node-requires : tie.Need-copy_node-requires
+copy_node-requires c κs =
     let p = c.requires in
     let l = p.4 in
     (p.0, p.1, p.2, p.3, l.images_long, l.images_are, l.nodes_are, copied c.before)
@@ -95,20 +95,20 @@ copy_fits c =
     let p = (start r).requires in
     omega (arith, p.4.nodes_are, copy_room (bytes r) p.0 (k r) (within r) (copied c))
 
-cast-images : tie.Need-overflow_cast-images
-cast-images c = omega (arith, copy_fits c.before.before.before.before)
+overflow_cast-images : tie.Need-overflow_cast-images
+overflow_cast-images c = omega (arith, copy_fits c.before.before.before.before)
 
-mul-images-3 : tie.Need-offset_bounds-images-k-in_default
-mul-images-3 c = omega (arith, c.requires.1.few_nodes)
+offset_bounds-images-k-in_default : tie.Need-offset_bounds-images-k-in_default
+offset_bounds-images-k-in_default c = omega (arith, c.requires.1.few_nodes)
 
-slice-write-images-2 : tie.Need-bounds-images-k-in_default
-slice-write-images-2 c = let p = c.requires in omega (arith, p.1.few_nodes, p.4.images_long)
+bounds-images-k-in_default : tie.Need-bounds-images-k-in_default
+bounds-images-k-in_default c = let p = c.requires in omega (arith, p.1.few_nodes, p.4.images_long)
 
-add-laid : tie.Need-overflow_add-count
-add-laid c = omega (arith, copy_fits c.before.before.before.before)
+overflow_add-count : tie.Need-overflow_add-count
+overflow_add-count c = omega (arith, copy_fits c.before.before.before.before)
 
-returns : tie.Need-returns-in-At
-returns c =
+returns-in-At : tie.Need-returns-in-At
+returns-in-At c =
     let scan = c.before in
     let r = read scan in
     let p = (start r).requires in
@@ -118,8 +118,8 @@ returns c =
       λ w e. e ∙ ap (λ (F : State). over (table_bytes F.out) w) (sym next),
     )
 
-returns_3 : tie.Need-returns-in_default
-returns_3 c =
+returns-in_default : tie.Need-returns-in_default
+returns-in_default c =
     let r = c.before.before.before.before.before.before in
     let p = (start r).requires in
     let next = next_copy (bytes r) p.0 (k r) (within r) (copied c.before.before.before.before.before) in (
@@ -135,20 +135,20 @@ take_node_spec =
     (λ c. search rules)
     (λ c κs. search rules)
     (λ c. search rules)
-    mul-images
-    slice-read-images
-    mul-images-2
-    slice-write-images
+    offset_bounds-images-j
+    bounds-images-j
+    offset_bounds-images-k
+    bounds-images-k
     (λ c. search rules)
-    add-application-requires
-    copy-node-requires
-    cast-images
-    mul-images-3
-    slice-write-images-2
-    add-laid
+    add_application-requires
+    copy_node-requires
+    overflow_cast-images
+    offset_bounds-images-k-in_default
+    bounds-images-k-in_default
+    overflow_add-count
     (λ c κs. search rules)
     (λ c. search rules)
-    returns
+    returns-in-At
     (λ c. search rules)
     (λ c. search rules)
     (λ c. search rules)
@@ -156,4 +156,4 @@ take_node_spec =
     (λ c. search rules)
     (λ c. search rules)
     (λ c. search rules)
-    returns_3)
+    returns-in_default)

@@ -5,11 +5,11 @@ use borrow.Author.Rules.{rules}
 use Rattle.host.proofs.eqp_read.Statement.{statement}
 use Rattle.host.proofs.eqp_read.Tie as tie
 
-returns : tie.Need-returns-then-reply-lt32
-returns c = let s = c.args in short_read s.text.now s.problem.now s.reply.now (omega arith)
+returns-then-reply-lt32 : tie.Need-returns-then-reply-lt32
+returns-then-reply-lt32 c = let s = c.args in short_read s.text.now s.problem.now s.reply.now (omega arith)
 
-returns_2 : tie.Need-returns
-returns_2 c =
+returns : tie.Need-returns
+returns c =
     let laid = c.before.before in
     let replied = laid.before in
     let done = replied.before.before.before.before in
@@ -21,10 +21,10 @@ pub eqp_read_spec : {M : Type 1} → statement M
 eqp_read_spec =
     tie.close
     (tie.spec
-    returns
+    returns-then-reply-lt32
     (λ c κs. search rules)
     (λ c κs. search rules)
     (λ c κs. search rules)
     (λ c. search rules)
     (λ c. search rules)
-    returns_2)
+    returns)

@@ -11,11 +11,11 @@ use Rattle.host.proofs.reading_reply.Tie as tie
 bytes_of : {a b : Reading} → a ≡ b → read_bytes (reading_read b) ≡ read_bytes (reading_read a)
 bytes_of e = ap (λ (r : Reading). read_bytes (reading_read r)) (sym e)
 
-returns : tie.Need-returns-in-Problem
-returns c = c.answered.ensures ∙ bytes_of c.in-Problem.is
+returns-in-Problem : tie.Need-returns-in-Problem
+returns-in-Problem c = c.answered.ensures ∙ bytes_of c.in-Problem.is
 
-returns_2 : tie.Need-returns-in-Refused
-returns_2 c = c.refusing.ensures ∙ bytes_of c.in-Refused.is
+returns-in-Refused : tie.Need-returns-in-Refused
+returns-in-Refused c = c.refusing.ensures ∙ bytes_of c.in-Refused.is
 
 pub reading_reply_spec : {M : Type 1} → statement M
 reading_reply_spec =
@@ -25,5 +25,5 @@ reading_reply_spec =
     (λ c κs. search rules)
     (λ c. search rules)
     (λ c κs. search rules)
-    returns
-    returns_2)
+    returns-in-Problem
+    returns-in-Refused)

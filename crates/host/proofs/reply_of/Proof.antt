@@ -11,17 +11,17 @@ use Rattle.host.proofs.reply_of.Tie as tie
 bytes_of : {a b : Decision} → a ≡ b → answer_bytes (decision_read b) ≡ answer_bytes (decision_read a)
 bytes_of e = ap (λ (d : Decision). answer_bytes (decision_read d)) (sym e)
 
-returns : tie.Need-returns-in-Valid
-returns c = c.answered.ensures ∙ bytes_of c.in-Valid.is
+returns-in-Valid : tie.Need-returns-in-Valid
+returns-in-Valid c = c.answered.ensures ∙ bytes_of c.in-Valid.is
 
-returns_2 : tie.Need-returns-in-Falsified
-returns_2 c = c.answered-in-Falsified.ensures ∙ bytes_of c.in-Falsified.is
+returns-in-Falsified : tie.Need-returns-in-Falsified
+returns-in-Falsified c = c.answered-in-Falsified.ensures ∙ bytes_of c.in-Falsified.is
 
-returns_3 : tie.Need-returns-in-Stopped
-returns_3 c = c.answered-in-Stopped.ensures ∙ bytes_of c.in-Stopped.is
+returns-in-Stopped : tie.Need-returns-in-Stopped
+returns-in-Stopped c = c.answered-in-Stopped.ensures ∙ bytes_of c.in-Stopped.is
 
-returns_4 : tie.Need-returns-in-Refused
-returns_4 c = c.refusing.ensures ∙ bytes_of c.in-Refused.is
+returns-in-Refused : tie.Need-returns-in-Refused
+returns-in-Refused c = c.refusing.ensures ∙ bytes_of c.in-Refused.is
 
 pub reply_of_spec : {M : Type 1} → statement M
 reply_of_spec =
@@ -35,7 +35,7 @@ reply_of_spec =
     (λ c κs. search rules)
     (λ c. search rules)
     (λ c κs. search rules)
-    returns
-    returns_2
-    returns_3
-    returns_4)
+    returns-in-Valid
+    returns-in-Falsified
+    returns-in-Stopped
+    returns-in-Refused)

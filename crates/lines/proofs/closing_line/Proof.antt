@@ -11,14 +11,14 @@ use Rattle.lines.proofs.closing_line.Tie as tie
 closing_as : (jobs : ℕ) {cut known : Bool} → cut ≡ known → closing (last_word known) jobs ≡ closing (last_word cut) jobs
 closing_as jobs e = ap (λ (b : Bool). closing (last_word b) jobs) (sym e)
 
-returns : tie.Need-returns-then-cut
-returns c =
+returns-then-cut : tie.Need-returns-then-cut
+returns-then-cut c =
     let counted = c.count_line.ensures in
     let start = c.before.before.before.before.before.before.before.before in
     (counted.0 ∙ closing_as start.args.jobs c.if-cut.true, counted.1)
 
-returns_2 : tie.Need-returns
-returns_2 c =
+returns : tie.Need-returns
+returns c =
     let counted = c.count_line-2.ensures in
     let start = c.before.before.before.before.before.before.before.before in
     (counted.0 ∙ closing_as start.args.jobs c.if-cut.false, counted.1)
@@ -29,7 +29,7 @@ closing_line_spec =
     (tie.spec
     (λ c κs. search rules)
     (λ c. search rules)
-    returns
+    returns-then-cut
     (λ c κs. search rules)
     (λ c. search rules)
-    returns_2)
+    returns)

@@ -6,13 +6,13 @@ use Rattle.problem.proofs.Stages.{refused_found, passed_nothing}
 use Rattle.problem.proofs.check_nodes.Statement.{statement}
 use Rattle.problem.proofs.check_nodes.Tie as tie
 
-returns : tie.Need-returns-in-At
-returns c =
+returns-in-At : tie.Need-returns-in-At
+returns-in-At c =
     let a = c.before.before.before in
     refused_found _ 6 _ refl a.requires.1 c.first_wrong.ensures c.in-At.is
 
-returns_2 : tie.Need-returns-in-Nothing
-returns_2 c =
+returns-in-Nothing : tie.Need-returns-in-Nothing
+returns-in-Nothing c =
     let a = c.before.before.before in
     let passed = passed_nothing a.args.problem.now 6 _ refl a.requires.1 c.first_wrong.ensures in
     (a.requires.0, layout_of _ (passed c.in-Nothing.is))
@@ -24,5 +24,5 @@ check_nodes_spec =
     (λ c κs. search rules)
     (λ c. search rules)
     (λ c. search rules)
-    returns
-    returns_2)
+    returns-in-At
+    returns-in-Nothing)

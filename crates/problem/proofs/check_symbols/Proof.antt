@@ -5,14 +5,14 @@ use Rattle.problem.proofs.Stages.{refused_found, passed_nothing}
 use Rattle.problem.proofs.check_symbols.Statement.{statement}
 use Rattle.problem.proofs.check_symbols.Tie as tie
 
-check-nodes-requires : tie.Need-check_nodes-requires
-check-nodes-requires c κs =
+check_nodes-requires : tie.Need-check_nodes-requires
+check_nodes-requires c κs =
     let a = c.before.before.before in
     let passed = passed_nothing a.args.problem.now 5 _ refl a.requires.1 c.first_bad.ensures in
     (a.requires.0, passed c.in-Nothing.is)
 
-returns : tie.Need-returns-in-At
-returns c =
+returns-in-At : tie.Need-returns-in-At
+returns-in-At c =
     let a = c.before.before.before in
     refused_found _ 5 _ refl a.requires.1 c.first_bad.ensures c.in-At.is
 
@@ -23,6 +23,6 @@ check_symbols_spec =
     (λ c κs. search rules)
     (λ c. search rules)
     (λ c. search rules)
-    check-nodes-requires
-    returns
+    check_nodes-requires
+    returns-in-At
     (λ c. search rules))

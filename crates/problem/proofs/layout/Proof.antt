@@ -4,11 +4,11 @@ use Rattle.problem.proofs.Stages.{head_refused, head_passed}
 use Rattle.problem.proofs.layout.Statement.{statement}
 use Rattle.problem.proofs.layout.Tie as tie
 
-check-symbols-requires : tie.Need-check_symbols-requires
-check-symbols-requires c κs = head_passed _ c.read_head.ensures c.in-Fine.is
+check_symbols-requires : tie.Need-check_symbols-requires
+check_symbols-requires c κs = head_passed _ c.read_head.ensures c.in-Fine.is
 
-returns : tie.Need-returns-in-Bad
-returns c = head_refused _ c.read_head.ensures c.in-Bad.is
+returns-in-Bad : tie.Need-returns-in-Bad
+returns-in-Bad c = head_refused _ c.read_head.ensures c.in-Bad.is
 
 pub layout_spec : {M : Type 1} → statement M
 layout_spec =
@@ -17,6 +17,6 @@ layout_spec =
     (λ c κs. search rules)
     (λ c. search rules)
     (λ c. search rules)
-    check-symbols-requires
-    returns
+    check_symbols-requires
+    returns-in-Bad
     (λ c. search rules))

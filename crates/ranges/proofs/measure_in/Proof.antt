@@ -14,11 +14,11 @@ use Rattle.ranges.proofs.TopLaws.{padded_at, take_padded, ranks_are}
 use Rattle.ranges.proofs.measure_in.Statement.{statement}
 use Rattle.ranges.proofs.measure_in.Tie as tie
 
-leaf-sets-requires : tie.Need-leaf_sets-requires
-leaf-sets-requires c κs = c.requires
+leaf_sets-requires : tie.Need-leaf_sets-requires
+leaf_sets-requires c κs = c.requires
 
-classes-requires : tie.Need-classes-joined-requires
-classes-requires c κs =
+classes-joined-requires : tie.Need-classes-joined-requires
+classes-joined-requires c κs =
     let l = c.leaf_sets in
     let s = c.before.before.before.before.before.before in
     let same = l.auto.sets in
@@ -34,8 +34,8 @@ multiplied-requires c κs =
       λ v h. omega (arith, ap (λ (ts : List ℕ). get_or ts v 0) c.tops-tops.ensures ∙ padded_at f s.args.shape.variables v h),
     )
 
-same_length : tie.Need-shape_of-sets
-same_length c = c.leaf_sets.auto.sets
+shape_of-sets : tie.Need-shape_of-sets
+shape_of-sets c = c.leaf_sets.auto.sets
 
 returns : tie.Need-returns
 returns c =
@@ -55,9 +55,9 @@ pub measure_in_spec : {M : Type 1} → statement M
 measure_in_spec =
     tie.close
     (tie.spec
-    leaf-sets-requires
-    classes-requires
+    leaf_sets-requires
+    classes-joined-requires
     (λ c κs. search rules)
     multiplied-requires
-    same_length
+    shape_of-sets
     returns)

@@ -39,14 +39,14 @@ module _ (c : tie.In-Accepted) where
   predicates_are : c.in-Accepted.predicates ≡ predicates_in (nodes_of bytes)
   predicates_are = predicates_answered c.counts.ensures c.in-Accepted.is
 
-returns : tie.Need-returns-then-work-lt21056
-returns c s root A =
+returns-then-work-lt21056 : tie.Need-returns-then-work-lt21056
+returns-then-work-lt21056 c s root A =
     let w = c.args.work.now in
     subst (λ (r : Ranges). RangesPromise root s w r w) (sym c.refused-then-work-lt21056.ensures)
     (ranges_refused s root w _ (refused_short A _ (within c.before.before) c.if-work-lt21056.true))
 
-lay-table-requires : tie.Need-lay_table-all-requires
-lay-table-requires c κs = (
+lay_table-all-requires : tie.Need-lay_table-all-requires
+lay_table-all-requires c κs = (
   ok c.before.before.before.before.before,
   c.requires.1,
   c.if-work-lt21056.false,
@@ -69,8 +69,8 @@ module _ (c : tie.After-lay_table-all) where
   long : 21056 ≤ length work'
   long = let same = c.lay_table-all.auto.work in omega (arith, room)
 
-measure-requires : tie.Need-measure-spans-requires
-measure-requires c κs =
+measure-spans-requires : tie.Need-measure-spans-requires
+measure-spans-requires c κs =
     let l = c.before.before.before.before.before.before in
     rw c.shape_of.ensures (table_stands (bytes (told l)) (ok (told l)) l.lay_table-all.ensures (long l))
 
@@ -88,22 +88,22 @@ module _ (c : tie.After-measure-spans) where
   product_is : ProductIs (product (bytes (told laid))) c.measure-spans.result.product
   product_is = product_measured (bytes (told laid)) (ok (told laid)) laid.lay_table-all.ensures spans
 
-returns_2 : tie.Need-returns-in-Refused
-returns_2 c s root A =
+returns-in-Refused : tie.Need-returns-in-Refused
+returns-in-Refused c s root A =
     let w = c.args.work.now in
     subst (λ (r : Ranges). RangesPromise root s w r w) (sym c.refused.ensures)
     (ranges_refused s root w _ (refused_limit A _ _ (refused_by c.counts.ensures c.in-Refused.is)))
 
-returns_3 : tie.Need-returns-in-Big
-returns_3 c s root A =
+returns-in-Big : tie.Need-returns-in-Big
+returns-in-Big c s root A =
     let l = c.before.before.before.before.before.before.before.before.before.before in
     let w = (start (told l)).args.work.now in
     subst (λ (r : Ranges). RangesPromise root s w r (work' l)) (sym c.refused-in-Big.ensures)
     (ranges_big A w (taken A _ (within (told l)) (room l)) (table_laid _ (ok (told l)) l.lay_table-all.ensures)
     (subst (ProductIs (product (bytes (told l)))) c.in-Big.is (product_is c.before.before.before)))
 
-returns_4 : tie.Need-returns-in-Of
-returns_4 c s root A =
+returns-in-Of : tie.Need-returns-in-Of
+returns-in-Of c s root A =
     let l = c.before.before.before.before.before.before.before.before.before in
     let w = (start (told l)).args.work.now in
     let is = subst (ProductIs (product (bytes (told l)))) c.in-Of.is (product_is c.before.before) in
@@ -119,18 +119,18 @@ ranges_asked_spec =
     (λ c κs. search rules)
     (λ c. search rules)
     (λ c κs. search rules)
-    returns
+    returns-then-work-lt21056
     (λ c. search rules)
     (λ c. search rules)
     (λ c. search rules)
-    lay-table-requires
+    lay_table-all-requires
     (λ c κs. search rules)
-    measure-requires
+    measure-spans-requires
     (λ c. search rules)
     (λ c κs. search rules)
     (λ c. search rules)
-    returns_2
+    returns-in-Refused
     (λ c. search rules)
-    returns_3
+    returns-in-Big
     (λ c. search rules)
-    returns_4)
+    returns-in-Of)

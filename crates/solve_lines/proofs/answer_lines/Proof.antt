@@ -7,27 +7,27 @@ use borrow.Author.Rules.{rules}
 use Rattle.solve_lines.proofs.answer_lines.Statement.{statement}
 use Rattle.solve_lines.proofs.answer_lines.Tie as tie
 
-returns : tie.Need-returns-in-Valid
+returns-in-Valid : tie.Need-returns-in-Valid
 unfolding answer_lines
-returns c =
+returns-in-Valid c =
     let line = whole_line c.put.ensures in
     (line.0 ∙ answer_as c.args.text.now c.in-Valid.is, line.1)
 
-returns_2 : tie.Need-returns-in-Falsified
+returns-in-Falsified : tie.Need-returns-in-Falsified
 unfolding answer_lines
-returns_2 c =
+returns-in-Falsified c =
     let line = whole_line c.put-in-Falsified.ensures in
     (line.0 ∙ answer_as c.args.text.now c.in-Falsified.is, line.1)
 
-returns_3 : tie.Need-returns-in-Stopped
+returns-in-Stopped : tie.Need-returns-in-Stopped
 unfolding answer_lines
-returns_3 c =
+returns-in-Stopped c =
     let lines = c.unknown_lines.ensures in
     (lines.0 ∙ answer_as c.args.text.now c.in-Stopped.is, lines.1)
 
-returns_4 : tie.Need-returns-in-Refused
+returns-in-Refused : tie.Need-returns-in-Refused
 unfolding answer_lines
-returns_4 c =
+returns-in-Refused c =
     let line = c.error_line.ensures in
     (line.0 ∙ answer_as c.args.text.now c.in-Refused.is, line.1)
 
@@ -44,10 +44,10 @@ answer_lines_spec =
     (λ c. search rules)
     (λ c κs. search rules)
     (λ c. search rules)
-    returns
+    returns-in-Valid
     (λ c. search rules)
-    returns_2
+    returns-in-Falsified
     (λ c. search rules)
-    returns_3
+    returns-in-Stopped
     (λ c. search rules)
-    returns_4)
+    returns-in-Refused)

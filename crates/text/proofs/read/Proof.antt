@@ -27,17 +27,17 @@ module _ (c : tie.In-Name) where
       let begun = subst (Begun (begin call).args.text.now) c.in-Name.is call.prologue.ensures in
       record { room = room call; reached = begun.0; named = begun.1; inside = begun.2 }
 
-returns : tie.Need-returns-then-problem-lt2088
-returns c = let s = c.before.before.before in short_promised s.args.text.now s.args.problem.now (search rules)
+returns-then-problem-lt2088 : tie.Need-returns-then-problem-lt2088
+returns-then-problem-lt2088 c = let s = c.before.before.before in short_promised s.args.text.now s.args.problem.now (search rules)
 
-read-short-requires : tie.Need-read_short-requires
-read-short-requires c κs = readable c.before.before
+read_short-requires : tie.Need-read_short-requires
+read_short-requires c κs = readable c.before.before
 
-read-long-requires : tie.Need-read_long-requires
-read-long-requires c κs = readable c.before.before
+read_long-requires : tie.Need-read_long-requires
+read_long-requires c κs = readable c.before.before
 
-returns_2 : tie.Need-returns-in-Wrong
-returns_2 c =
+returns-in-Wrong : tie.Need-returns-in-Wrong
+returns-in-Wrong c =
     let call = c.before in
     let text = (begin call).args.text.now in
     refused_promised text (begin call).args.problem.now (Refusal.WrongToken c.in-Wrong.place) (room call)
@@ -47,13 +47,13 @@ pub read_spec : {M : Type 1} → statement M
 read_spec =
     tie.close
     (tie.spec
-    returns
+    returns-then-problem-lt2088
     (λ c κs. search rules)
     (λ c. search rules)
     (λ c. search rules)
-    read-short-requires
-    read-long-requires
-    returns_2
+    read_short-requires
+    read_long-requires
+    returns-in-Wrong
     (λ c. search rules)
     (λ c. search rules)
     (λ c. search rules)

@@ -26,8 +26,8 @@ module _ (c : tie.After-roots-2-1) where
       subst (WholeIs text call.read_commands.new.shelf call.read_commands.new.symbols call.read_commands.new.nodes call.read_commands.new.roots) e
       call.read_commands.ensures
 
-read-commands-requires : tie.Need-read_commands-requires
-read-commands-requires c κs =
+read_commands-requires : tie.Need-read_commands-requires
+read_commands-requires c κs =
     let s = c.before.before.before.before.before.before.before in
     first_scripted s.requires _ _ _ _ (search rules) (search rules) (search rules)
 
@@ -44,13 +44,13 @@ end-requires c κs =
       roots_long = sound.roots_long;
     }
 
-returns : tie.Need-returns-in-Refused
-returns c =
+returns-in-Refused : tie.Need-returns-in-Refused
+returns-in-Refused c =
     let all = c.before in
     refused_promised (text all) (begin all).args.problem.now c.in-Refused.refusal (begin all).requires.room (came all c.in-Refused.is)
 
-returns_2 : tie.Need-returns-in-Read
-returns_2 c =
+returns-in-Read : tie.Need-returns-in-Read
+returns-in-Read c =
     let ended = c.before.before.before in
     let known = ended in
     let all = known.before.before.before.before.before.before in
@@ -63,7 +63,7 @@ read_with_spec =
     (λ c. search rules)
     (λ c. search rules)
     (λ c. search rules)
-    read-commands-requires
+    read_commands-requires
     (λ c. search rules)
     (λ c. search rules)
     (λ c. search rules)
@@ -71,7 +71,7 @@ read_with_spec =
     (λ c. search rules)
     end-requires
     (λ c. search rules)
-    returns
+    returns-in-Refused
     (λ c. search rules)
     (λ c. search rules)
-    returns_2)
+    returns-in-Read)

@@ -8,8 +8,8 @@ use Rattle.walk.proofs.Calling.{begins_with, digits_small, digits_fit, one_fits}
 use Rattle.walk.proofs.begin.Statement.{statement}
 use Rattle.walk.proofs.begin.Tie as tie
 
-arrange-requires : tie.Need-arrange-starts-requires
-arrange-requires c κs =
+arrange-starts-requires : tie.Need-arrange-starts-requires
+arrange-starts-requires c κs =
     let p = c.requires in
     let f = p.0.parts_are.parted.fast_few in
     let n = p.0.begins.count_is in
@@ -23,17 +23,17 @@ decode-requires c κs =
     let room = p.0.parts_are.room in
     (p.0.table_in_is, in_order _ _ p.0.table_in_is _ _ _ _ a.ensures (omega arith), omega arith, p.2)
 
-lay-lanes-requires : tie.Need-lay_lanes-requires
-lay-lanes-requires c κs =
+lay_lanes-requires : tie.Need-lay_lanes-requires
+lay_lanes-requires c κs =
     let s = c.before.before.before.before.before.before.before.before.before.before.before.before.before.before.before.before.before in
     let p = s.requires in
     (p.0.begins.turning, p.0.parts_are.parted, one_fits (16 * s.args.plan.parts.chunks) s.args.plan.shape.nodes s.args.plan.root _ p.0.root_in.below p.3)
 
-slow-requires : tie.Need-slow-slow-requires
-slow-requires c κs = let p = c.requires in (p.0.begins.turning, p.0.parts_are.parted.fast_few)
+slow-slow-requires : tie.Need-slow-slow-requires
+slow-slow-requires c κs = let p = c.requires in (p.0.begins.turning, p.0.parts_are.parted.fast_few)
 
-lay-slow-requires : tie.Need-lay_slow-requires
-lay-slow-requires c κs =
+lay_slow-requires : tie.Need-lay_slow-requires
+lay_slow-requires c κs =
     let s = c.before.before.before.before.before.before.before.before.before.before.before.before.before.before.before.before.before.before.before.before.before.before.before.before in
     let p = s.requires in
     let w = c.slow-slow.ensures in
@@ -44,8 +44,8 @@ lay-slow-requires c κs =
     let u = digits_fit (16 * s.args.plan.parts.chunks) s.args.plan.shape.nodes (length s.args.cells.now) p.3 in
     (omega arith, p.0.parts_are.parted.chunks_few, w.turning.digits_long, omega arith, digits_small _ w.turning)
 
-cell-of-requires : tie.Need-cell_of-root-requires
-cell-of-requires c κs =
+cell_of-root-requires : tie.Need-cell_of-root-requires
+cell_of-root-requires c κs =
     let s = c.before.before.before.before.before.before.before.before.before.before.before.before.before.before.before.before.before.before.before.before.before.before.before.before.before.before.before in
     let p = s.requires in
     let a = c.arrange-starts in
@@ -56,14 +56,14 @@ cell-of-requires c κs =
     let here = o.inside s.args.plan.root low in
     (omega arith, omega arith, p.0.parts_are.parted.chunks_few)
 
-same_length : tie.Need-shape_of-positions
-same_length c = c.arrange-starts.auto.positions
+shape_of-positions : tie.Need-shape_of-positions
+shape_of-positions c = c.arrange-starts.auto.positions
 
-same_length_2 : tie.Need-shape_of-branches
-same_length_2 c = c.decode.auto.branches
+shape_of-branches : tie.Need-shape_of-branches
+shape_of-branches c = c.decode.auto.branches
 
-same_length_3 : tie.Need-shape_of-cells
-same_length_3 c = c.lay_slow.auto.cells ∙ c.lay_lanes.auto.cells
+shape_of-cells : tie.Need-shape_of-cells
+shape_of-cells c = c.lay_slow.auto.cells ∙ c.lay_lanes.auto.cells
 
 returns : tie.Need-returns
 returns c =
@@ -75,13 +75,13 @@ pub begin_spec : {M : Type 1} → statement M
 begin_spec =
     tie.close
     (tie.spec
-    arrange-requires
+    arrange-starts-requires
     decode-requires
-    lay-lanes-requires
-    slow-requires
-    lay-slow-requires
-    cell-of-requires
-    same_length
-    same_length_2
-    same_length_3
+    lay_lanes-requires
+    slow-slow-requires
+    lay_slow-requires
+    cell_of-root-requires
+    shape_of-positions
+    shape_of-branches
+    shape_of-cells
     returns)

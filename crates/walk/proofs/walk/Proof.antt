@@ -6,8 +6,8 @@ use lib.ListN.{length-replicate}
 use Rattle.walk.proofs.walk.Statement.{statement}
 use Rattle.walk.proofs.walk.Tie as tie
 
-walk-in-requires : tie.Need-walk_in-requires
-walk-in-requires c κs =
+walk_in-requires : tie.Need-walk_in-requires
+walk_in-requires c κs =
     let s = c.before.before.before.before.before.before.before.before.before.before.before.before in
     let p = s.requires in
     let few = p.0.few_nodes in
@@ -30,7 +30,7 @@ walk_spec =
     (λ c. search rules)
     (λ c. search rules)
     (λ c. search rules)
-    walk-in-requires
+    walk_in-requires
     (λ c. search rules)
     (λ c. search rules)
     (λ c κs. search rules)

@@ -24,11 +24,11 @@ invariant_loop table budget positions branches cells₀ values₀ shape parts be
 abbrev decreases_loop : tie.decreases-loop-tried
 decreases_loop table budget positions branches cells₀ values₀ shape parts begun starts odometer₀ tried₀ from₀ cells values odometer tried from = budget - tried
 
-begin-requires : tie.Need-begin-begun-requires invariant_loop decreases_loop
-begin-requires c κs = let p = c.requires in (p.0, p.1, p.2, p.3)
+begin-begun-requires : tie.Need-begin-begun-requires invariant_loop decreases_loop
+begin-begun-requires c κs = let p = c.requires in (p.0, p.1, p.2, p.3)
 
-loop_holds : tie.Need-loop-tried-init invariant_loop decreases_loop
-loop_holds c = (λ root o b. (0, b.walking _), refl, refl)
+loop-tried-init : tie.Need-loop-tried-init invariant_loop decreases_loop
+loop-tried-init c = (λ root o b. (0, b.walking _), refl, refl)
 
 evaluate-requires : tie.Need-evaluate-requires invariant_loop decreases_loop
 evaluate-requires c κs =
@@ -45,11 +45,11 @@ evaluate-requires c κs =
     let n = p.0.table_in_is.few_nodes in
     (omega arith, few, n, p.0.parts_are.parted.chunks_few, omega arith, ready_all _ _ _ _ _ _ _ _ e.setting)
 
-sub-lanes-in : tie.Need-overflow_sub-budget invariant_loop decreases_loop
-sub-lanes-in c = omega (arith, c.loop-tried-test.true)
+overflow_sub-budget : tie.Need-overflow_sub-budget invariant_loop decreases_loop
+overflow_sub-budget c = omega (arith, c.loop-tried-test.true)
 
-first-false-requires : tie.Need-first_false-lane-requires invariant_loop decreases_loop
-first-false-requires c κs =
+first_false-lane-requires : tie.Need-first_false-lane-requires invariant_loop decreases_loop
+first_false-lane-requires c κs =
     let s = c.before.before.before.before.before.before.before.before.before.before.before.before.before.before.before.before.before.before.before.before.before.before.before.before.before.before in
     let p = s.requires in
     let b = c.begin-begun in
@@ -67,8 +67,8 @@ first-false-requires c κs =
     (inside _ _ _ _ _ _ _ _ e.setting s.args.plan.root p.0.root_in.below) p.3 m f in
     (omega arith, omega arith)
 
-values-of-requires : tie.Need-values_of-requires invariant_loop decreases_loop
-values-of-requires c κs =
+values_of-requires : tie.Need-values_of-requires invariant_loop decreases_loop
+values_of-requires c κs =
     let s = c.before.before.before.before.before.before.before.before.before.before.before.before.before.before.before.before.before.before.before.before.before.before.before.before.before.before.before.before.before in
     let p = s.requires in
     let b = c.begin-begun in
@@ -86,34 +86,34 @@ values-of-requires c κs =
     let t = c.if-lane-many.true in
     (in_order _ _ p.0.table_in_is _ _ _ _ e.setting.arranged (omega arith), p.0.table_in_is.few_nodes, a.chunks_few, omega arith, omega arith, omega arith)
 
-add-t42 : tie.Need-overflow_add-result invariant_loop decreases_loop
-add-t42 c =
+overflow_add-result : tie.Need-overflow_add-result invariant_loop decreases_loop
+overflow_add-result c =
     let inside = c.if-lane-many.true in
     let m = (lanes_few _ _ _ c.lanes_in-many.ensures).1 in
     let test = c.loop-tried-test.true in
     omega (arith, c.ranges.budget)
 
-add-t43 : tie.Need-overflow_add-result-then-lane-many invariant_loop decreases_loop
-add-t43 c =
+overflow_add-result-then-lane-many : tie.Need-overflow_add-result-then-lane-many invariant_loop decreases_loop
+overflow_add-result-then-lane-many c =
     let inside = c.if-lane-many.true in
     let m = (lanes_few _ _ _ c.lanes_in-many.ensures).1 in
     let test = c.loop-tried-test.true in
     omega (arith, c.ranges.budget)
 
-same_length : tie.Need-shape_of-positions-then-lane-many invariant_loop decreases_loop
-same_length c = c.begin-begun.auto.positions
+shape_of-positions-then-lane-many : tie.Need-shape_of-positions-then-lane-many invariant_loop decreases_loop
+shape_of-positions-then-lane-many c = c.begin-begun.auto.positions
 
-same_length_2 : tie.Need-shape_of-branches-then-lane-many invariant_loop decreases_loop
-same_length_2 c = c.begin-begun.auto.branches
+shape_of-branches-then-lane-many : tie.Need-shape_of-branches-then-lane-many invariant_loop decreases_loop
+shape_of-branches-then-lane-many c = c.begin-begun.auto.branches
 
-same_length_3 : tie.Need-shape_of-cells-then-lane-many invariant_loop decreases_loop
-same_length_3 c = c.evaluate.auto.cells ∙ c.loop-tried.invariant.1 ∙ c.begin-begun.auto.cells
+shape_of-cells-then-lane-many : tie.Need-shape_of-cells-then-lane-many invariant_loop decreases_loop
+shape_of-cells-then-lane-many c = c.evaluate.auto.cells ∙ c.loop-tried.invariant.1 ∙ c.begin-begun.auto.cells
 
-same_length_4 : tie.Need-shape_of-values-then-lane-many invariant_loop decreases_loop
-same_length_4 c = c.values_of.auto.values ∙ c.loop-tried.invariant.2
+shape_of-values-then-lane-many : tie.Need-shape_of-values-then-lane-many invariant_loop decreases_loop
+shape_of-values-then-lane-many c = c.values_of.auto.values ∙ c.loop-tried.invariant.2
 
-returns : tie.Need-returns-then-lane-many invariant_loop decreases_loop
-returns c =
+returns-then-lane-many : tie.Need-returns-then-lane-many invariant_loop decreases_loop
+returns-then-lane-many c =
     let s = c.before.before.before.before.before.before.before.before.before.before.before.before.before.before.before.before.before.before.before.before.before.before.before.before.before.before.before.before.before.before.before.before in
     let p = s.requires in
     let b = c.begin-begun in
@@ -130,14 +130,14 @@ returns c =
     (root_found _ _ _ _ _ e.root_is c.first_false-lane.ensures) l.tried (w.going going) w.held _ w.block_inside many.1
     c.if-lane-many.true _ (omega arith) c.values_of.ensures
 
-add-tried : tie.Need-overflow_add-tried invariant_loop decreases_loop
-add-tried c =
+overflow_add-tried : tie.Need-overflow_add-tried invariant_loop decreases_loop
+overflow_add-tried c =
     let m = (lanes_few _ _ _ c.lanes_in-many.ensures).1 in
     let test = c.loop-tried-test.true in
     omega (arith, c.ranges.budget)
 
-next_requires : tie.Need-next-step-requires invariant_loop decreases_loop
-next_requires c κs =
+next-step-requires : tie.Need-next-step-requires invariant_loop decreases_loop
+next-step-requires c κs =
     let s = c.before.before.before.before.before.before.before.before.before.before.before.before.before.before.before.before.before.before.before.before.before.before.before.before.before.before.before.before in
     let p = s.requires in
     let b = c.begin-begun in
@@ -146,20 +146,20 @@ next_requires c κs =
     let w = (l.invariant.0 s.args.plan.root s.args.start e).1 in
     w.turns
 
-same-length-5 : tie.Need-shape_of-positions-then-step invariant_loop decreases_loop
-same-length-5 c = c.begin-begun.auto.positions
+shape_of-positions-then-step : tie.Need-shape_of-positions-then-step invariant_loop decreases_loop
+shape_of-positions-then-step c = c.begin-begun.auto.positions
 
-same-length-6 : tie.Need-shape_of-branches-then-step invariant_loop decreases_loop
-same-length-6 c = c.begin-begun.auto.branches
+shape_of-branches-then-step : tie.Need-shape_of-branches-then-step invariant_loop decreases_loop
+shape_of-branches-then-step c = c.begin-begun.auto.branches
 
-same-length-7 : tie.Need-shape_of-cells-then-step invariant_loop decreases_loop
-same-length-7 c = c.evaluate.auto.cells ∙ c.loop-tried.invariant.1 ∙ c.begin-begun.auto.cells
+shape_of-cells-then-step : tie.Need-shape_of-cells-then-step invariant_loop decreases_loop
+shape_of-cells-then-step c = c.evaluate.auto.cells ∙ c.loop-tried.invariant.1 ∙ c.begin-begun.auto.cells
 
-same-length-8 : tie.Need-shape_of-values-then-step invariant_loop decreases_loop
-same-length-8 c = c.loop-tried.invariant.2
+shape_of-values-then-step : tie.Need-shape_of-values-then-step invariant_loop decreases_loop
+shape_of-values-then-step c = c.loop-tried.invariant.2
 
-returns_2 : tie.Need-returns-then-step invariant_loop decreases_loop
-returns_2 c =
+returns-then-step : tie.Need-returns-then-step invariant_loop decreases_loop
+returns-then-step c =
     let s = c.before.before.before.before.before.before.before.before.before.before.before.before.before.before.before.before.before.before.before.before.before.before.before.before.before.before.before.before.before.before.before in
     let p = s.requires in
     let b = c.begin-begun in
@@ -174,8 +174,8 @@ returns_2 c =
     ends_there _ _ _ _ _ _ _ _ e.setting _ _ _ _ _ q w _ ev going _ _ many.0 many.1 many.2
     (root_found _ _ _ _ _ e.root_is c.first_false-lane.ensures) c.if-lane-many.false _ nx c.if-step.true _
 
-add-lay-slow : tie.Need-overflow_add-step invariant_loop decreases_loop
-add-lay-slow c =
+overflow_add-step : tie.Need-overflow_add-step invariant_loop decreases_loop
+overflow_add-step c =
     let s = c.before.before.before.before.before.before.before.before.before.before.before.before.before.before.before.before.before.before.before.before.before.before.before.before.before.before.before.before.before.before.before.before.before.before in
     let p = s.requires in
     let b = c.begin-begun in
@@ -185,8 +185,8 @@ add-lay-slow c =
     let t = turned_few _ _ _ _ _ _ _ _ e.setting _ _ _ _ _ _ w _ c.next-step.ensures c.if-step.false in
     omega arith
 
-lay-slow-requires : tie.Need-lay_slow-requires invariant_loop decreases_loop
-lay-slow-requires c κs =
+lay_slow-requires : tie.Need-lay_slow-requires invariant_loop decreases_loop
+lay_slow-requires c κs =
     let s = c.before.before.before.before.before.before.before.before.before.before.before.before.before.before.before.before.before.before.before.before.before.before.before.before.before.before.before.before.before.before.before.before.before.before.before in
     let p = s.requires in
     let b = c.begin-begun in
@@ -201,8 +201,8 @@ lay-slow-requires c κs =
     let u = digits_fit (16 * s.args.plan.parts.chunks) s.args.plan.shape.nodes (length s.args.cells.now) p.3 in
     (omega arith, p.0.parts_are.parted.chunks_few, nx.turning.digits_long, omega arith, digits_small _ nx.turning)
 
-add-number : tie.Need-overflow_add-parts invariant_loop decreases_loop
-add-number c =
+overflow_add-parts : tie.Need-overflow_add-parts invariant_loop decreases_loop
+overflow_add-parts c =
     let s = c.before.before.before.before.before.before.before.before.before.before.before.before.before.before.before.before.before.before.before.before.before.before.before.before.before.before.before.before.before.before.before.before.before.before.before.before.before.before.before.before in
     let p = s.requires in
     let b = c.begin-begun in
@@ -212,8 +212,8 @@ add-number c =
     let t = turned_few _ _ _ _ _ _ _ _ e.setting _ _ _ _ _ _ w _ c.next-step.ensures c.if-step.false in
     omega arith
 
-mul-number : tie.Need-offset_bounds-starts-parts invariant_loop decreases_loop
-mul-number c =
+offset_bounds-starts-parts : tie.Need-offset_bounds-starts-parts invariant_loop decreases_loop
+offset_bounds-starts-parts c =
     let s = c.before.before.before.before.before.before.before.before.before.before.before.before.before.before.before.before.before.before.before.before.before.before.before.before.before.before.before.before.before.before.before.before.before.before.before.before.before.before.before.before in
     let p = s.requires in
     let b = c.begin-begun in
@@ -223,8 +223,8 @@ mul-number c =
     let t = turned_few _ _ _ _ _ _ _ _ e.setting _ _ _ _ _ _ w _ c.next-step.ensures c.if-step.false in
     omega arith
 
-array-read-number : tie.Need-bounds-starts-parts invariant_loop decreases_loop
-array-read-number c =
+bounds-starts-parts : tie.Need-bounds-starts-parts invariant_loop decreases_loop
+bounds-starts-parts c =
     let s = c.before.before.before.before.before.before.before.before.before.before.before.before.before.before.before.before.before.before.before.before.before.before.before.before.before.before.before.before.before.before.before.before.before.before.before.before.before.before.before.before in
     let p = s.requires in
     let b = c.begin-begun in
@@ -235,15 +235,15 @@ array-read-number c =
     let long = e.setting.arranged.starts_long in
     omega arith
 
-loop_less : tie.Need-loop-tried-smaller invariant_loop decreases_loop
-loop_less c =
+loop-tried-smaller : tie.Need-loop-tried-smaller invariant_loop decreases_loop
+loop-tried-smaller c =
     let m = lanes_few _ _ _ c.lanes_in-many.ensures in
     let some = c.requires.0.parts_are.parted.lanes_some in
     let test = c.loop-tried-test.true in
     loop_falls _ _ _ _ m some test
 
-loop_again : tie.Need-loop-tried-preserved invariant_loop decreases_loop
-loop_again c =
+loop-tried-preserved : tie.Need-loop-tried-preserved invariant_loop decreases_loop
+loop-tried-preserved c =
     let s = c.before.before.before.before.before.before.before.before.before.before.before.before.before.before.before.before.before.before.before.before.before.before.before.before.before.before.before.before.before.before.before.before.before.before.before.before.before.before.before.before.before in
     let l = c.loop-tried in
     let many = lanes_few _ _ _ c.lanes_in-many.ensures in
@@ -262,20 +262,20 @@ loop_again c =
       l.invariant.2,
     )
 
-same-length-9 : tie.Need-shape_of-positions invariant_loop decreases_loop
-same-length-9 c = c.begin-begun.auto.positions
+shape_of-positions : tie.Need-shape_of-positions invariant_loop decreases_loop
+shape_of-positions c = c.begin-begun.auto.positions
 
-same-length-10 : tie.Need-shape_of-branches invariant_loop decreases_loop
-same-length-10 c = c.begin-begun.auto.branches
+shape_of-branches : tie.Need-shape_of-branches invariant_loop decreases_loop
+shape_of-branches c = c.begin-begun.auto.branches
 
-same-length-11 : tie.Need-shape_of-cells invariant_loop decreases_loop
-same-length-11 c = c.loop-tried.invariant.1 ∙ c.begin-begun.auto.cells
+shape_of-cells : tie.Need-shape_of-cells invariant_loop decreases_loop
+shape_of-cells c = c.loop-tried.invariant.1 ∙ c.begin-begun.auto.cells
 
-same-length-12 : tie.Need-shape_of-values invariant_loop decreases_loop
-same-length-12 c = c.loop-tried.invariant.2
+shape_of-values : tie.Need-shape_of-values invariant_loop decreases_loop
+shape_of-values c = c.loop-tried.invariant.2
 
-returns_3 : tie.Need-returns invariant_loop decreases_loop
-returns_3 c =
+returns : tie.Need-returns invariant_loop decreases_loop
+returns c =
     let s = c.before.before.before.before.before.before.before.before.before.before.before.before.before.before.before.before.before.before.before.before.before in
     let p = s.requires in
     let b = c.begin-begun in
@@ -290,37 +290,37 @@ walk_in_spec =
     (tie.spec
     invariant_loop
     decreases_loop
-    begin-requires
-    loop_holds
+    begin-begun-requires
+    loop-tried-init
     evaluate-requires
-    sub-lanes-in
+    overflow_sub-budget
     (λ c κs. search rules)
-    first-false-requires
-    values-of-requires
-    add-t42
-    add-t43
-    same_length
-    same_length_2
-    same_length_3
-    same_length_4
-    returns
-    add-tried
-    next_requires
-    same-length-5
-    same-length-6
-    same-length-7
-    same-length-8
-    returns_2
-    add-lay-slow
-    lay-slow-requires
-    add-number
-    mul-number
-    array-read-number
+    first_false-lane-requires
+    values_of-requires
+    overflow_add-result
+    overflow_add-result-then-lane-many
+    shape_of-positions-then-lane-many
+    shape_of-branches-then-lane-many
+    shape_of-cells-then-lane-many
+    shape_of-values-then-lane-many
+    returns-then-lane-many
+    overflow_add-tried
+    next-step-requires
+    shape_of-positions-then-step
+    shape_of-branches-then-step
+    shape_of-cells-then-step
+    shape_of-values-then-step
+    returns-then-step
+    overflow_add-step
+    lay_slow-requires
+    overflow_add-parts
+    offset_bounds-starts-parts
+    bounds-starts-parts
     (λ c κs. search rules)
-    loop_less
-    loop_again
-    same-length-9
-    same-length-10
-    same-length-11
-    same-length-12
-    returns_3)
+    loop-tried-smaller
+    loop-tried-preserved
+    shape_of-positions
+    shape_of-branches
+    shape_of-cells
+    shape_of-values
+    returns)

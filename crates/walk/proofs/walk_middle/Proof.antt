@@ -7,8 +7,8 @@ use Rattle.walk.proofs.Splitting.{cells_few}
 use Rattle.walk.proofs.walk_middle.Statement.{statement}
 use Rattle.walk.proofs.walk_middle.Tie as tie
 
-walk-in-requires : tie.Need-walk_in-requires
-walk-in-requires c κs =
+walk_in-requires : tie.Need-walk_in-requires
+walk_in-requires c κs =
     let s = c.before.before.before.before.before.before in
     let p = s.requires in
     let few = p.0.table_in_is.few_nodes in
@@ -25,6 +25,6 @@ walk_middle_spec =
     (λ c. search rules)
     (λ c. search rules)
     (λ c. search rules)
-    walk-in-requires
+    walk_in-requires
     (λ c. search rules)
     (λ c. search rules))

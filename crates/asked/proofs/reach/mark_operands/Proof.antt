@@ -19,17 +19,17 @@ invariant_loop problem k marks₀ fields used j₀ marks j =
 abbrev decreases_loop : tie.decreases-loop-j
 decreases_loop problem k marks₀ fields used j₀ marks j = used - j
 
-loop_holds : tie.Need-loop-j-init invariant_loop decreases_loop
-loop_holds c = (omega arith, λ j h. refl, c.requires.3)
+loop-j-init : tie.Need-loop-j-init invariant_loop decreases_loop
+loop-j-init c = (omega arith, λ j h. refl, c.requires.3)
 
-mul-two-at : tie.Need-overflow_mul-j invariant_loop decreases_loop
-mul-two-at c = let few = c.uses-used.ensures.1 in omega arith
+overflow_mul-j : tie.Need-overflow_mul-j invariant_loop decreases_loop
+overflow_mul-j c = let few = c.uses-used.ensures.1 in omega arith
 
-add-two-at : tie.Need-overflow_add-fields-in-loop-j invariant_loop decreases_loop
-add-two-at c = let few = c.uses-used.ensures.1 in omega (arith, c.node_at-fields.ensures)
+overflow_add-fields-in-loop-j : tie.Need-overflow_add-fields-in-loop-j invariant_loop decreases_loop
+overflow_add-fields-in-loop-j c = let few = c.uses-used.ensures.1 in omega (arith, c.node_at-fields.ensures)
 
-two-at-requires : tie.Need-two_at-requires invariant_loop decreases_loop
-two-at-requires c κs =
+two_at-requires : tie.Need-two_at-requires invariant_loop decreases_loop
+two_at-requires c κs =
     let s = c.before.before.before.before.before.before in
     let few = c.uses-used.ensures.1 in
     omega (arith, c.node_at-fields.ensures, s.requires.0.whole, s.requires.0.few_symbols, s.requires.0.few_nodes)
@@ -58,20 +58,20 @@ module _ (c : tie.After-two_at invariant_loop decreases_loop) where
       let is = operand_is in
       omega (arith, p.0.few_nodes, p.2)
 
-slice-write-marks : tie.Need-bounds-marks-two_at invariant_loop decreases_loop
-slice-write-marks c =
+bounds-marks-two_at : tie.Need-bounds-marks-two_at invariant_loop decreases_loop
+bounds-marks-two_at c =
     let b = operand_small c in
     let long = c.loop-j.invariant.2 in
     omega arith
 
-add-j : tie.Need-overflow_add-j invariant_loop decreases_loop
-add-j c = let few = c.uses-used.ensures.1 in omega arith
+overflow_add-j : tie.Need-overflow_add-j invariant_loop decreases_loop
+overflow_add-j c = let few = c.uses-used.ensures.1 in omega arith
 
-loop_less : tie.Need-loop-j-smaller invariant_loop decreases_loop
-loop_less c = omega arith
+loop-j-smaller : tie.Need-loop-j-smaller invariant_loop decreases_loop
+loop-j-smaller c = omega arith
 
-loop_again : tie.Need-loop-j-preserved invariant_loop decreases_loop
-loop_again c =
+loop-j-preserved : tie.Need-loop-j-preserved invariant_loop decreases_loop
+loop-j-preserved c =
     let l = c.loop-j in
     let s = c.before.before.before.before.before.before.before in
     let ops = operands_at s.args.problem.now s.args.k in
@@ -84,8 +84,8 @@ loop_again c =
       length-set l.marks _ 1 ∙ long,
     )
 
-same_length : tie.Need-shape_of-marks invariant_loop decreases_loop
-same_length c = c.loop-j.invariant.2 ∙ sym c.requires.3
+shape_of-marks : tie.Need-shape_of-marks invariant_loop decreases_loop
+shape_of-marks c = c.loop-j.invariant.2 ∙ sym c.requires.3
 
 returns : tie.Need-returns invariant_loop decreases_loop
 returns c =
@@ -104,13 +104,13 @@ mark_operands_spec =
     (λ c κs. search rules)
     (λ c. search rules)
     (λ c κs. search rules)
-    loop_holds
-    mul-two-at
-    add-two-at
-    two-at-requires
-    slice-write-marks
-    add-j
-    loop_less
-    loop_again
-    same_length
+    loop-j-init
+    overflow_mul-j
+    overflow_add-fields-in-loop-j
+    two_at-requires
+    bounds-marks-two_at
+    overflow_add-j
+    loop-j-smaller
+    loop-j-preserved
+    shape_of-marks
     returns)

@@ -13,42 +13,42 @@ invariant_loop root problem header marks₀ count₀ k₀ marks count k = (count
 abbrev decreases_loop : tie.decreases-loop-k
 decreases_loop root problem header marks₀ count₀ k₀ marks count k = k
 
-slice-write-marks : tie.Need-bounds-marks-root invariant_loop decreases_loop
-slice-write-marks c =
+bounds-marks-root : tie.Need-bounds-marks-root invariant_loop decreases_loop
+bounds-marks-root c =
     let p = c.requires in
     omega (arith, p.0.few_nodes, p.2, ap length p.3 ∙ length-replicate {A = ℕ} 256 0)
 
-add-k : tie.Need-overflow_add-k invariant_loop decreases_loop
-add-k c = let p = c.requires in omega (arith, p.0.few_nodes, p.2)
+overflow_add-k : tie.Need-overflow_add-k invariant_loop decreases_loop
+overflow_add-k c = let p = c.requires in omega (arith, p.0.few_nodes, p.2)
 
-loop_holds : tie.Need-loop-k-init invariant_loop decreases_loop
-loop_holds c = let p = c.requires in (omega arith, walk_begins p.0 p.1 _ p.2 _ p.3)
+loop-k-init : tie.Need-loop-k-init invariant_loop decreases_loop
+loop-k-init c = let p = c.requires in (omega arith, walk_begins p.0 p.1 _ p.2 _ p.3)
 
-sub-k : tie.Need-overflow_sub-k invariant_loop decreases_loop
-sub-k c = omega arith
+overflow_sub-k : tie.Need-overflow_sub-k invariant_loop decreases_loop
+overflow_sub-k c = omega arith
 
-slice-read-if1 : tie.Need-bounds-marks-k invariant_loop decreases_loop
-slice-read-if1 c =
+bounds-marks-k : tie.Need-bounds-marks-k invariant_loop decreases_loop
+bounds-marks-k c =
     let v = c.loop-k.invariant.1 in
     let p = c.requires in
     omega (arith, v.within, v.long, p.0.few_nodes, p.2)
 
-add-count : tie.Need-overflow_add-count invariant_loop decreases_loop
-add-count c =
+overflow_add-count : tie.Need-overflow_add-count invariant_loop decreases_loop
+overflow_add-count c =
     let p = c.requires in
     omega (arith, c.loop-k.invariant.0, p.0.few_nodes, p.2)
 
-mark-operands-requires : tie.Need-mark_operands-requires invariant_loop decreases_loop
-mark-operands-requires c κs =
+mark_operands-requires : tie.Need-mark_operands-requires invariant_loop decreases_loop
+mark_operands-requires c κs =
     let v = c.loop-k.invariant.1 in
     let p = c.requires in
     (p.0, p.1, omega (arith, v.within, p.2), v.long)
 
-loop_less : tie.Need-loop-k-smaller-then-marks-k-eq1 invariant_loop decreases_loop
-loop_less c = omega arith
+loop-k-smaller-then-marks-k-eq1 : tie.Need-loop-k-smaller-then-marks-k-eq1 invariant_loop decreases_loop
+loop-k-smaller-then-marks-k-eq1 c = omega arith
 
-loop_again : tie.Need-loop-k-preserved-then-marks-k-eq1 invariant_loop decreases_loop
-loop_again c =
+loop-k-preserved-then-marks-k-eq1 : tie.Need-loop-k-preserved-then-marks-k-eq1 invariant_loop decreases_loop
+loop-k-preserved-then-marks-k-eq1 c =
     let l = c.loop-k in
     let p = c.requires in
     let kept = c.mark_operands.auto.marks in
@@ -59,11 +59,11 @@ loop_again c =
       walk_marked p.0 p.1 _ p.2 _ _ _ k v c.if-marks-k-eq1.true c.mark_operands.ensures (kept ∙ l.invariant.1.long),
     )
 
-loop-less-2 : tie.Need-loop-k-smaller invariant_loop decreases_loop
-loop-less-2 c = omega arith
+loop-k-smaller : tie.Need-loop-k-smaller invariant_loop decreases_loop
+loop-k-smaller c = omega arith
 
-loop-again-2 : tie.Need-loop-k-preserved invariant_loop decreases_loop
-loop-again-2 c =
+loop-k-preserved : tie.Need-loop-k-preserved invariant_loop decreases_loop
+loop-k-preserved c =
     let l = c.loop-k in
     let p = c.requires in
     let k : ℕ = l.k - 1 in
@@ -71,8 +71,8 @@ loop-again-2 c =
     let v = subst (λ (j : ℕ). Walking c.args.problem.now c.args.root l.marks l.count j) up l.invariant.1 in
     (omega arith, walk_passed p.0 p.1 _ p.2 _ _ k v c.if-marks-k-eq1.false)
 
-same_length : tie.Need-shape_of-marks invariant_loop decreases_loop
-same_length c = c.loop-k.invariant.1.long ∙ sym (ap length c.requires.3 ∙ length-replicate {A = ℕ} 256 0)
+shape_of-marks : tie.Need-shape_of-marks invariant_loop decreases_loop
+shape_of-marks c = c.loop-k.invariant.1.long ∙ sym (ap length c.requires.3 ∙ length-replicate {A = ℕ} 256 0)
 
 returns : tie.Need-returns invariant_loop decreases_loop
 returns c =
@@ -88,16 +88,16 @@ reach_spec =
     (tie.spec
     invariant_loop
     decreases_loop
-    slice-write-marks
-    add-k
-    loop_holds
-    sub-k
-    slice-read-if1
-    add-count
-    mark-operands-requires
-    loop_less
-    loop_again
-    loop-less-2
-    loop-again-2
-    same_length
+    bounds-marks-root
+    overflow_add-k
+    loop-k-init
+    overflow_sub-k
+    bounds-marks-k
+    overflow_add-count
+    mark_operands-requires
+    loop-k-smaller-then-marks-k-eq1
+    loop-k-preserved-then-marks-k-eq1
+    loop-k-smaller
+    loop-k-preserved
+    shape_of-marks
     returns)

@@ -19,31 +19,31 @@ invariant_loop root problem header marks nodes₀ numbers₀ count₀ k₀ nodes
 abbrev decreases_loop : tie.decreases-loop-k
 decreases_loop root problem header marks nodes₀ numbers₀ count₀ k₀ nodes numbers count k = suc root - k
 
-loop_holds : tie.Need-loop-k-init invariant_loop decreases_loop
-loop_holds c =
+loop-k-init : tie.Need-loop-k-init invariant_loop decreases_loop
+loop-k-init c =
     let p = c.requires in (
       laying_begins p.0 _ _ (length-replicate {A = ℕ} 256 0),
       omega (arith, length_nodes_of p.1, p.0.is_node, p.1.few_nodes),
     )
 
-cast-numbers : tie.Need-overflow_cast-numbers invariant_loop decreases_loop
-cast-numbers c = let v = c.loop-k.invariant.0 in omega (arith, v.few, c.loop-k.invariant.1)
+overflow_cast-numbers : tie.Need-overflow_cast-numbers invariant_loop decreases_loop
+overflow_cast-numbers c = let v = c.loop-k.invariant.0 in omega (arith, v.few, c.loop-k.invariant.1)
 
-array-write-numbers : tie.Need-bounds-numbers-k invariant_loop decreases_loop
-array-write-numbers c = let b = c.loop-k.invariant.1 in omega arith
+bounds-numbers-k : tie.Need-bounds-numbers-k invariant_loop decreases_loop
+bounds-numbers-k c = let b = c.loop-k.invariant.1 in omega arith
 
-shared-slice-read-if1 : tie.Need-bounds-marks-k invariant_loop decreases_loop
-shared-slice-read-if1 c =
+bounds-marks-k : tie.Need-bounds-marks-k invariant_loop decreases_loop
+bounds-marks-k c =
     let b = c.loop-k.invariant.1 in
     omega (arith, c.requires.3)
 
-slice-aggregate-lay-renumbered : tie.Need-slice_bounds-lay_renumbered-end invariant_loop decreases_loop
-slice-aggregate-lay-renumbered c =
+slice_bounds-lay_renumbered-end : tie.Need-slice_bounds-lay_renumbered-end invariant_loop decreases_loop
+slice_bounds-lay_renumbered-end c =
     let l = c.loop-k in
     sym (length-set l.numbers l.k l.count ∙ l.invariant.0.long)
 
-lay-renumbered-requires : tie.Need-lay_renumbered-requires invariant_loop decreases_loop
-lay-renumbered-requires c κs =
+lay_renumbered-requires : tie.Need-lay_renumbered-requires invariant_loop decreases_loop
+lay_renumbered-requires c κs =
     let l = c.loop-k in
     let p = c.requires in
     let v = l.invariant.0 in
@@ -57,21 +57,21 @@ lay-renumbered-requires c κs =
       omega arith,
     )
 
-add-count : tie.Need-overflow_add-count invariant_loop decreases_loop
-add-count c =
+overflow_add-count : tie.Need-overflow_add-count invariant_loop decreases_loop
+overflow_add-count c =
     let l = c.loop-k in
     let few = l.invariant.0.few in
     let b = l.invariant.1 in
     omega arith
 
-add-k : tie.Need-overflow_add-k invariant_loop decreases_loop
-add-k c = let b = c.loop-k.invariant.1 in omega arith
+overflow_add-k : tie.Need-overflow_add-k invariant_loop decreases_loop
+overflow_add-k c = let b = c.loop-k.invariant.1 in omega arith
 
-loop_less : tie.Need-loop-k-smaller invariant_loop decreases_loop
-loop_less c = omega arith
+loop-k-smaller : tie.Need-loop-k-smaller invariant_loop decreases_loop
+loop-k-smaller c = omega arith
 
-loop_again : tie.Need-loop-k-preserved invariant_loop decreases_loop
-loop_again c =
+loop-k-preserved : tie.Need-loop-k-preserved invariant_loop decreases_loop
+loop-k-preserved c =
     let l = c.loop-k in
     let start = c.before.before.before.before.before.before.before in
     let p = start.requires in
@@ -94,8 +94,8 @@ loop_again c =
       l.invariant.1,
     )
 
-same_length : tie.Need-shape_of-nodes invariant_loop decreases_loop
-same_length c = c.loop-k.invariant.0.kept
+shape_of-nodes : tie.Need-shape_of-nodes invariant_loop decreases_loop
+shape_of-nodes c = c.loop-k.invariant.0.kept
 
 returns : tie.Need-returns invariant_loop decreases_loop
 returns c =
@@ -108,15 +108,15 @@ lay_reached_spec =
     (tie.spec
     invariant_loop
     decreases_loop
-    loop_holds
-    cast-numbers
-    array-write-numbers
-    shared-slice-read-if1
-    slice-aggregate-lay-renumbered
-    lay-renumbered-requires
-    add-count
-    add-k
-    loop_less
-    loop_again
-    same_length
+    loop-k-init
+    overflow_cast-numbers
+    bounds-numbers-k
+    bounds-marks-k
+    slice_bounds-lay_renumbered-end
+    lay_renumbered-requires
+    overflow_add-count
+    overflow_add-k
+    loop-k-smaller
+    loop-k-preserved
+    shape_of-nodes
     returns)

@@ -8,8 +8,8 @@ use Rattle.asked.proofs.Renumbering.{operand_small, operand_renamed, node_rename
 use Rattle.asked.proofs.trim.lay_renumbered.Statement.{statement}
 use Rattle.asked.proofs.trim.lay_renumbered.Tie as tie
 
-number-at-requires : tie.Need-number_at-a-requires
-number-at-requires c κs =
+number_at-a-requires : tie.Need-number_at-a-requires
+number_at-a-requires c κs =
     let p = c.requires in
     let at = c.node_at-at.ensures in (
       omega (arith, at, p.0.whole, p.2),
@@ -17,8 +17,8 @@ number-at-requires c κs =
       operand_small p.0 p.1 _ p.2 _ at 0 _ _ (omega arith) c.uses-used.ensures.0,
     )
 
-number-at-requires-2 : tie.Need-number_at-b-requires
-number-at-requires-2 c κs =
+number_at-b-requires : tie.Need-number_at-b-requires
+number_at-b-requires c κs =
     let p = c.requires in
     let at = c.node_at-at.ensures in (
       omega (arith, at, p.0.whole, p.2),
@@ -26,8 +26,8 @@ number-at-requires-2 c κs =
       operand_small p.0 p.1 _ p.2 _ at 1 _ _ (omega arith) c.uses-used.ensures.0,
     )
 
-number-at-requires-3 : tie.Need-number_at-c-requires
-number-at-requires-3 c κs =
+number_at-c-requires : tie.Need-number_at-c-requires
+number_at-c-requires c κs =
     let p = c.requires in
     let at = c.node_at-at.ensures in (
       omega (arith, at, p.0.whole, p.2),
@@ -58,11 +58,11 @@ lay_renumbered_spec =
     (λ c κs. search rules)
     (λ c κs. search rules)
     (λ c. search rules)
-    number-at-requires
+    number_at-a-requires
     (λ c. search rules)
-    number-at-requires-2
+    number_at-b-requires
     (λ c. search rules)
-    number-at-requires-3
+    number_at-c-requires
     (λ c. search rules)
     (λ c. search rules)
     (λ c. search rules)

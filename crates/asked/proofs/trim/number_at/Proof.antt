@@ -9,14 +9,14 @@ use Rattle.definitions.specs.Bytes.{two_at}
 use Rattle.asked.proofs.trim.number_at.Statement.{statement}
 use Rattle.asked.proofs.trim.number_at.Tie as tie
 
-shared-slice-read-wide : tie.Need-bounds-numbers-two_at
-shared-slice-read-wide c =
+bounds-numbers-two_at : tie.Need-bounds-numbers-two_at
+bounds-numbers-two_at c =
     let p = c.requires in
     let small = p.2 c.if-used.true in
     omega (arith, c.two_at.ensures.0, p.1)
 
-returns : tie.Need-returns-then-used
-returns c =
+returns-then-used : tie.Need-returns-then-used
+returns-then-used c =
     let start = c.before.before.before.before.before.before in
     let numbers = start.args.numbers.now in
     let x = get_or numbers (two_at start.args.problem.now start.args.at) 0 in (
@@ -30,7 +30,7 @@ number_at_spec =
     tie.close
     (tie.spec
     (λ c κs. search rules)
-    shared-slice-read-wide
+    bounds-numbers-two_at
     (λ c κs. search rules)
-    returns
+    returns-then-used
     (λ c. search rules))

@@ -11,19 +11,19 @@ use Rattle.asked.proofs.Trimming.{trims}
 use Rattle.asked.proofs.trim.trim.Statement.{statement}
 use Rattle.asked.proofs.trim.trim.Tie as tie
 
-reach-requires : tie.Need-reach-count-requires
-reach-requires c κs =
+reach-count-requires : tie.Need-reach-count-requires
+reach-count-requires c κs =
     let p = c.requires in
     (p.1, p.0.table, omega (arith, length_nodes_of p.1, p.0.is_node), refl)
 
-put-front-requires : tie.Need-put_front-requires
-put-front-requires c κs =
+put_front-requires : tie.Need-put_front-requires
+put_front-requires c κs =
     let p = c.requires in
     let few = reached_few_of p.0 in
     (p.1, p.0.table, omega (arith, c.reach-count.ensures.counted), p.2)
 
-lay-reached-requires : tie.Need-lay_reached-requires
-lay-reached-requires c κs =
+lay_reached-requires : tie.Need-lay_reached-requires
+lay_reached-requires c κs =
     let start = c.before.before.before.before.before.before.before.before.before.before.before.before in
     let p = start.requires in
     let front = c.put_front in
@@ -54,13 +54,13 @@ trim_spec =
     tie.close
     (tie.spec
     (λ c. search rules)
-    reach-requires
-    put-front-requires
+    reach-count-requires
+    put_front-requires
     (λ c. search rules)
     (λ c. search rules)
     (λ c. search rules)
     (λ c. search rules)
     (λ c. search rules)
-    lay-reached-requires
+    lay_reached-requires
     (λ c. search rules)
     returns)

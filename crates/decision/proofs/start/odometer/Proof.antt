@@ -11,34 +11,34 @@ invariant_loop tops shape count sizes₀ v₀ sizes v = Sized tops shape sizes v
 abbrev decreases_loop : tie.decreases-loop-v
 decreases_loop tops shape count sizes₀ v₀ sizes v = count - v
 
-add-count : tie.Need-overflow_add-count invariant_loop decreases_loop
-add-count c = let p = c.requires.1 in let q = c.requires.2 in omega arith
+overflow_add-count : tie.Need-overflow_add-count invariant_loop decreases_loop
+overflow_add-count c = let p = c.requires.1 in let q = c.requires.2 in omega arith
 
-loop_holds : tie.Need-loop-v-init invariant_loop decreases_loop
-loop_holds c = let s = c.before in sized_none s.args.tops s.args.shape s.requires.1 s.requires.2 s.requires.3
+loop-v-init : tie.Need-loop-v-init invariant_loop decreases_loop
+loop-v-init c = let s = c.before in sized_none s.args.tops s.args.shape s.requires.1 s.requires.2 s.requires.3
 
-size-at-requires : tie.Need-size_at-requires invariant_loop decreases_loop
-size-at-requires c κs = c.loop-v.invariant.few
+size_at-requires : tie.Need-size_at-requires invariant_loop decreases_loop
+size_at-requires c κs = c.loop-v.invariant.few
 
-array-write-sizes : tie.Need-bounds-sizes-v invariant_loop decreases_loop
-array-write-sizes c =
+bounds-sizes-v : tie.Need-bounds-sizes-v invariant_loop decreases_loop
+bounds-sizes-v c =
     let z = c.loop-v.invariant in
     let n = z.few in
     let p = z.fewer in
     omega arith
 
-add-v : tie.Need-overflow_add-v invariant_loop decreases_loop
-add-v c =
+overflow_add-v : tie.Need-overflow_add-v invariant_loop decreases_loop
+overflow_add-v c =
     let z = c.loop-v.invariant in
     let n = z.few in
     let p = z.fewer in
     omega arith
 
-loop_less : tie.Need-loop-v-smaller invariant_loop decreases_loop
-loop_less c = omega arith
+loop-v-smaller : tie.Need-loop-v-smaller invariant_loop decreases_loop
+loop-v-smaller c = omega arith
 
-loop_again : tie.Need-loop-v-preserved invariant_loop decreases_loop
-loop_again c =
+loop-v-preserved : tie.Need-loop-v-preserved invariant_loop decreases_loop
+loop-v-preserved c =
     let l = c.loop-v in
     sized_more l.invariant c.loop-v-test.true c.size_at.result c.size_at.ensures
 
@@ -52,11 +52,11 @@ odometer_spec =
     (tie.spec
     invariant_loop
     decreases_loop
-    add-count
-    loop_holds
-    size-at-requires
-    array-write-sizes
-    add-v
-    loop_less
-    loop_again
+    overflow_add-count
+    loop-v-init
+    size_at-requires
+    bounds-sizes-v
+    overflow_add-v
+    loop-v-smaller
+    loop-v-preserved
     returns)

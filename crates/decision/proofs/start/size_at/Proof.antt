@@ -5,13 +5,13 @@ use Rattle.decision.proofs.Beginning.{size_variable, size_truth}
 use Rattle.decision.proofs.start.size_at.Statement.{statement}
 use Rattle.decision.proofs.start.size_at.Tie as tie
 
-returns : tie.Need-returns-then-v-variables
-returns c =
+returns-then-v-variables : tie.Need-returns-then-v-variables
+returns-then-v-variables c =
     let s = c.args in
     sym (size_variable s.tops s.variables s.v c.if-v-variables.true)
 
-returns_2 : tie.Need-returns
-returns_2 c =
+returns : tie.Need-returns
+returns c =
     let s = c.args in
     sym (size_truth s.tops s.variables s.v c.if-v-variables.false)
 
@@ -20,5 +20,5 @@ size_at_spec =
     tie.close
     (tie.spec
     (λ c. search rules)
-    returns
-    returns_2)
+    returns-then-v-variables
+    returns)

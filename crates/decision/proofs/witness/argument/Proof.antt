@@ -6,8 +6,8 @@ use lib.ListN.{get_or}
 use Rattle.decision.proofs.witness.argument.Statement.{statement}
 use Rattle.decision.proofs.witness.argument.Tie as tie
 
-returns : tie.Need-returns-then-used
-returns c =
+returns-then-used : tie.Need-returns-then-used
+returns-then-used c =
     let s = c.args in
     sym (ap (λ (b : Bool). cond b (get_or s.values.now s.image 0) 0) c.if-used.true)
 
@@ -16,5 +16,5 @@ argument_spec =
     tie.close
     (tie.spec
     (λ c. search rules)
-    returns
+    returns-then-used
     (λ c. search rules))

@@ -38,8 +38,8 @@ module _ (c : tie.Start) where
   low : get_or all.images app 0 < all.nodes
   low = image_fits s c.requires.0 all laid c.args.i c.requires.3
 
-shared-slice-read-wide : tie.Need-bounds-apps-i
-shared-slice-read-wide c = let st = c.before.before.before.before.before.before in omega (arith, few st, (laid st).apps_long)
+bounds-apps-i : tie.Need-bounds-apps-i
+bounds-apps-i c = let st = c.before.before.before.before.before.before in omega (arith, few st, (laid st).apps_long)
 
 -- and as it is read
 module _ (c : tie.After-wide-q) where
@@ -59,30 +59,30 @@ module _ (c : tie.After-wide-q) where
       let is = q_is in
       omega arith
 
-node-at-requires : tie.Need-node_at-requires
-node-at-requires c κs =
+node_at-requires : tie.Need-node_at-requires
+node_at-requires c κs =
     let few_symbols = (start c).requires.1.few_symbols in
     let few_nodes = (start c).requires.1.few_nodes in
     let inside = q_node c in
     (few_symbols, omega arith)
 
-add-symbol : tie.Need-overflow_add-symbol
-add-symbol c =
+overflow_add-symbol : tie.Need-overflow_add-symbol
+overflow_add-symbol c =
     let few_symbols = (start c.before).requires.1.few_symbols in
     let few_nodes = (start c.before).requires.1.few_nodes in
     let inside = q_node c.before in
     let at = c.node_at.ensures in
     omega arith
 
-shared-slice-read-symbol : tie.Need-bounds-problem-node_at
-shared-slice-read-symbol c =
+bounds-problem-node_at : tie.Need-bounds-problem-node_at
+bounds-problem-node_at c =
     let whole = (start c.before.before).requires.1.whole in
     let inside = q_node c.before.before in
     let at = c.node_at.ensures in
     omega arith
 
-images-of-requires : tie.Need-images_of-xs-requires
-images-of-requires c κs =
+images_of-xs-requires : tie.Need-images_of-xs-requires
+images_of-xs-requires c κs =
     let got = c.before.before.before.before in
     let st = start got in
     let inside = q_node got in (
@@ -115,17 +115,17 @@ module _ (c : tie.After-images_of-xs) where
       let fits = images_fit (s given) given.requires.0 (all given) (laid given) given.args.i given.requires.3 0 given.args.values.now c.images_of-xs.result operands_read j h in
       omega arith
 
-argument-requires : tie.Need-argument-x-requires
-argument-requires c κs = operand_fits c 0 (omega arith)
+argument-x-requires : tie.Need-argument-x-requires
+argument-x-requires c κs = operand_fits c 0 (omega arith)
 
-argument-requires-2 : tie.Need-argument-y-requires
-argument-requires-2 c κs = operand_fits c.before 1 (omega arith)
+argument-y-requires : tie.Need-argument-y-requires
+argument-y-requires c κs = operand_fits c.before 1 (omega arith)
 
-argument-requires-3 : tie.Need-argument-z-requires
-argument-requires-3 c κs = operand_fits c.before.before 2 (omega arith)
+argument-z-requires : tie.Need-argument-z-requires
+argument-z-requires c κs = operand_fits c.before.before 2 (omega arith)
 
-value-at-requires : tie.Need-value_at-value-requires
-value-at-requires c κs =
+value_at-value-requires : tie.Need-value_at-value-requires
+value_at-value-requires c κs =
     let got = c.before.before.before.before.before.before.before.before in
     let st = start got in
     let few_nodes = st.requires.1.few_nodes in
@@ -147,20 +147,20 @@ module _ (c : tie.After-value_at-value) where
   row_room : 6 + 5 * first.args.i + 5 ≤ 206
   row_room = let f = few first in omega arith
 
-mul_at : tie.Need-overflow_mul-at
-mul_at c = let f = row_room c in omega arith
+overflow_mul-at : tie.Need-overflow_mul-at
+overflow_mul-at c = let f = row_room c in omega arith
 
-add_at : tie.Need-overflow_add-at
-add_at c = let f = row_room c in omega arith
+overflow_add-at : tie.Need-overflow_add-at
+overflow_add-at c = let f = row_room c in omega arith
 
-sub-put-row : tie.Need-slice_bounds-put_row-count
-sub-put-row c = let f = row_room c in let room = (first c).requires.5 in omega arith
+slice_bounds-put_row-count : tie.Need-slice_bounds-put_row-count
+slice_bounds-put_row-count c = let f = row_room c in let room = (first c).requires.5 in omega arith
 
-part-put-row-start : tie.Need-slice_bounds-put_row-start
-part-put-row-start c = let f = row_room c in let room = (first c).requires.5 in omega arith
+slice_bounds-put_row-start : tie.Need-slice_bounds-put_row-start
+slice_bounds-put_row-start c = let f = row_room c in let room = (first c).requires.5 in omega arith
 
-put-row-requires : tie.Need-put_row-requires
-put-row-requires c κs =
+put_row-requires : tie.Need-put_row-requires
+put_row-requires c κs =
     let st = first c.before in
     let f = row_room c.before in
     let room = st.requires.5 in
@@ -212,26 +212,26 @@ pub write_row_spec : {M : Type 1} → statement M
 write_row_spec =
     tie.close
     (tie.spec
-    shared-slice-read-wide
+    bounds-apps-i
     (λ c κs. search rules)
-    node-at-requires
-    add-symbol
-    shared-slice-read-symbol
+    node_at-requires
+    overflow_add-symbol
+    bounds-problem-node_at
     (λ c κs. search rules)
     (λ c κs. search rules)
-    images-of-requires
+    images_of-xs-requires
     (λ c. search rules)
-    argument-requires
+    argument-x-requires
     (λ c. search rules)
-    argument-requires-2
+    argument-y-requires
     (λ c. search rules)
-    argument-requires-3
-    value-at-requires
-    mul_at
-    add_at
-    sub-put-row
-    part-put-row-start
+    argument-z-requires
+    value_at-value-requires
+    overflow_mul-at
+    overflow_add-at
+    slice_bounds-put_row-count
+    slice_bounds-put_row-start
     (λ c. search rules)
-    put-row-requires
+    put_row-requires
     (λ c. search rules)
     returns)

@@ -24,8 +24,8 @@ few c =
     let s = c.args.problem.now in
     omega (arith, apps_few s c.requires.0 (node_count s) (omega arith), c.requires.1.laid.count_is)
 
-put-head-requires : tie.Need-put_head-requires invariant_loop decreases_loop
-put-head-requires c κs = let room = c.requires.3 in omega arith
+put_head-requires : tie.Need-put_head-requires invariant_loop decreases_loop
+put_head-requires c κs = let room = c.requires.3 in omega arith
 
 -- after the head
 module _ (c : tie.After-put_head invariant_loop decreases_loop) where
@@ -46,16 +46,16 @@ module _ (c : tie.After-put_head invariant_loop decreases_loop) where
   same_room : length w₀ ≡ length start.args.witness.now
   same_room = c.put_head.auto.witness
 
-loop_holds : tie.Need-loop-i-init invariant_loop decreases_loop
-loop_holds c =
+loop-i-init : tie.Need-loop-i-init invariant_loop decreases_loop
+loop-i-init c =
     let put = c.before.before in
     let s = start put in
     let problem = s.args.problem.now in
     writing_none problem s.args.values.now (w₀ put) (count put) (rows_many problem s.requires.0 _ s.requires.1.laid) (w₀ put) refl
     (head_stands (count put) s.args.witness.now (w₀ put) (head_put put))
 
-write-row-requires : tie.Need-write_row-requires invariant_loop decreases_loop
-write-row-requires c κs =
+write_row-requires : tie.Need-write_row-requires invariant_loop decreases_loop
+write_row-requires c κs =
     let l = c.loop-i in
     let put = c.before.before.before.before.before in
     let s = start put in
@@ -70,28 +70,28 @@ write-row-requires c κs =
       omega arith,
     )
 
-add-i : tie.Need-overflow_add-i invariant_loop decreases_loop
-add-i c = let f = few (start c.before.before.before.before.before.before.before.before) in let t = c.loop-i-test.true in omega arith
+overflow_add-i : tie.Need-overflow_add-i invariant_loop decreases_loop
+overflow_add-i c = let f = few (start c.before.before.before.before.before.before.before.before) in let t = c.loop-i-test.true in omega arith
 
-loop_less : tie.Need-loop-i-smaller invariant_loop decreases_loop
-loop_less c = omega arith
+loop-i-smaller : tie.Need-loop-i-smaller invariant_loop decreases_loop
+loop-i-smaller c = omega arith
 
-loop_again : tie.Need-loop-i-preserved invariant_loop decreases_loop
-loop_again c =
+loop-i-preserved : tie.Need-loop-i-preserved invariant_loop decreases_loop
+loop-i-preserved c =
     let l = c.loop-i in
     let put = c.before.before.before.before.before.before.before.before in
     let s = start put in
     writing_more s.args.problem.now s.args.values.now (w₀ put) (count put) l.witness l.i l.invariant _ c.loop-i-test.true
     c.write_row.auto.witness c.write_row.ensures
 
-mul-result : tie.Need-overflow_mul-result invariant_loop decreases_loop
-mul-result c = let f = few (start c.before.before.before.before) in omega arith
+overflow_mul-result : tie.Need-overflow_mul-result invariant_loop decreases_loop
+overflow_mul-result c = let f = few (start c.before.before.before.before) in omega arith
 
-add-result : tie.Need-overflow_add-result invariant_loop decreases_loop
-add-result c = let f = few (start c.before.before.before.before) in omega arith
+overflow_add-result : tie.Need-overflow_add-result invariant_loop decreases_loop
+overflow_add-result c = let f = few (start c.before.before.before.before) in omega arith
 
-same_length : tie.Need-shape_of-witness invariant_loop decreases_loop
-same_length c = c.loop-i.invariant.long ∙ same_room c.before.before.before.before
+shape_of-witness : tie.Need-shape_of-witness invariant_loop decreases_loop
+shape_of-witness c = c.loop-i.invariant.long ∙ same_room c.before.before.before.before
 
 returns : tie.Need-returns invariant_loop decreases_loop
 returns c =
@@ -109,13 +109,13 @@ write_witness_spec =
     decreases_loop
     (λ c κs. search rules)
     (λ c. search rules)
-    put-head-requires
-    loop_holds
-    write-row-requires
-    add-i
-    loop_less
-    loop_again
-    mul-result
-    add-result
-    same_length
+    put_head-requires
+    loop-i-init
+    write_row-requires
+    overflow_add-i
+    loop-i-smaller
+    loop-i-preserved
+    overflow_mul-result
+    overflow_add-result
+    shape_of-witness
     returns)

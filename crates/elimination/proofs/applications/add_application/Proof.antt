@@ -56,29 +56,29 @@ op_read c =
     let st = c.before.before.before.before.before.before in
     ap (λ (n : Node). n.op) (node_stands st.requires.1 _ _ c.node_at.ensures st.requires.2)
 
-cast-apps : tie.Need-overflow_cast-apps
-cast-apps c = omega (arith, c.requires.1.few_nodes)
+overflow_cast-apps : tie.Need-overflow_cast-apps
+overflow_cast-apps c = omega (arith, c.requires.1.few_nodes)
 
-slice-write-apps : tie.Need-bounds-apps-i
-slice-write-apps c = let st = c.before.before.before.before.before.before.before.before.before.before.before in omega (arith, has_place_lem st, st.requires.4.apps_long)
+bounds-apps-i : tie.Need-bounds-apps-i
+bounds-apps-i c = let st = c.before.before.before.before.before.before.before.before.before.before.before in omega (arith, has_place_lem st, st.requires.4.apps_long)
 
-cast-owns : tie.Need-overflow_cast-owns
-cast-owns c = omega (arith, own_fits c.before.before.before.before.before.before.before.before.before.before.before)
+overflow_cast-owns : tie.Need-overflow_cast-owns
+overflow_cast-owns c = omega (arith, own_fits c.before.before.before.before.before.before.before.before.before.before.before)
 
-mul-owns : tie.Need-offset_bounds-owns-i
-mul-owns c = omega (arith, has_place_lem c.before.before.before.before.before.before.before.before.before.before.before)
+offset_bounds-owns-i : tie.Need-offset_bounds-owns-i
+offset_bounds-owns-i c = omega (arith, has_place_lem c.before.before.before.before.before.before.before.before.before.before.before)
 
-slice-write-owns : tie.Need-bounds-owns-i
-slice-write-owns c = let st = c.before.before.before.before.before.before.before.before.before.before.before in omega (arith, has_place_lem st, st.requires.4.owns_long)
+bounds-owns-i : tie.Need-bounds-owns-i
+bounds-owns-i c = let st = c.before.before.before.before.before.before.before.before.before.before.before in omega (arith, has_place_lem st, st.requires.4.owns_long)
 
-cast-images : tie.Need-overflow_cast-images
-cast-images c = let st = c.before.before.before.before.before.before.before.before.before.before.before in omega (arith, own_fits st, next_fits st, c.lay_application-at.ensures.1)
+overflow_cast-images : tie.Need-overflow_cast-images
+overflow_cast-images c = let st = c.before.before.before.before.before.before.before.before.before.before.before in omega (arith, own_fits st, next_fits st, c.lay_application-at.ensures.1)
 
-mul-images : tie.Need-offset_bounds-images-k
-mul-images c = omega (arith, c.requires.1.few_nodes)
+offset_bounds-images-k : tie.Need-offset_bounds-images-k
+offset_bounds-images-k c = omega (arith, c.requires.1.few_nodes)
 
-slice-write-images : tie.Need-bounds-images-k
-slice-write-images c = let st = c.before.before.before.before.before.before.before.before.before.before.before in omega (arith, st.requires.1.few_nodes, st.requires.4.images_long)
+bounds-images-k : tie.Need-bounds-images-k
+bounds-images-k c = let st = c.before.before.before.before.before.before.before.before.before.before.before in omega (arith, st.requires.1.few_nodes, st.requires.4.images_long)
 
 applied-requires : tie.Need-applied-requires
 applied-requires c κs =
@@ -106,14 +106,14 @@ add_application_spec =
     (λ c. search rules)
     (λ c κs. search rules)
     (λ c. search rules)
-    cast-apps
-    slice-write-apps
-    cast-owns
-    mul-owns
-    slice-write-owns
-    cast-images
-    mul-images
-    slice-write-images
+    overflow_cast-apps
+    bounds-apps-i
+    overflow_cast-owns
+    offset_bounds-owns-i
+    bounds-owns-i
+    overflow_cast-images
+    offset_bounds-images-k
+    bounds-images-k
     applied-requires
     (λ c. search rules)
     (λ c. search rules)

@@ -70,11 +70,11 @@ choice_read c =
       | else-problem-here-eq0 w ↦ w.choice-is ∙ sym (choice_other _ (λ e. w.if-problem-here-eq0.false (sym op_read ∙ e)))
     ]
 
-add_at : tie.Need-overflow_add-at invariant_loop decreases_loop
-add_at c = omega (arith, has_room c.before.before.before)
+overflow_add-at : tie.Need-overflow_add-at invariant_loop decreases_loop
+overflow_add-at c = omega (arith, has_room c.before.before.before)
 
-loop_holds : tie.Need-loop-i-init invariant_loop decreases_loop
-loop_holds c =
+loop-i-init : tie.Need-loop-i-init invariant_loop decreases_loop
+loop-i-init c =
     let read = c.before.before.before in
     choosing_first _ _ _ _ _ (entry read).requires.4.count_is (has_room read)
 
@@ -100,8 +100,8 @@ module _ (c : tie.In-loop-i invariant_loop decreases_loop) where
       let few = apps_few (bytes read) start.requires.0 (k read) (omega (arith, within read)) in
       omega (arith, i_few, start.requires.4.count_is)
 
-shared-slice-read-wide-2 : tie.Need-bounds-apps-i invariant_loop decreases_loop
-shared-slice-read-wide-2 c = omega (arith, i_small c.before, (start c.before).requires.4.apps_long)
+bounds-apps-i : tie.Need-bounds-apps-i invariant_loop decreases_loop
+bounds-apps-i c = omega (arith, i_small c.before, (start c.before).requires.4.apps_long)
 
 -- and its node
 module _ (c : tie.After-wide-q invariant_loop decreases_loop) where
@@ -120,13 +120,13 @@ module _ (c : tie.After-wide-q invariant_loop decreases_loop) where
   tested : one_symbol (node (nodes_of (bytes (read turn))) q) (the_node (read turn)) ≡ same_symbol (the_node (read turn)) (app turn)
   tested = ap (λ (m : Node). one_symbol m (the_node (read turn))) q_is
 
-same-symbol-requires : tie.Need-same_symbol-requires invariant_loop decreases_loop
-same-symbol-requires c κs =
+same_symbol-requires : tie.Need-same_symbol-requires invariant_loop decreases_loop
+same_symbol-requires c κs =
     let p = (start (turn c)).requires in
     (p.1, omega (arith, q_before c, p.2), p.2)
 
-images-of-requires-2 : tie.Need-images_of-ys-requires invariant_loop decreases_loop
-images-of-requires-2 c κs =
+images_of-ys-requires : tie.Need-images_of-ys-requires invariant_loop decreases_loop
+images_of-ys-requires c κs =
     let looked = c.before.before in
     let p = (start (turn looked)).requires in
     let earlier = q_before looked in
@@ -184,21 +184,12 @@ module _ (c : tie.After-images_of-ys invariant_loop decreases_loop) where
       (k seen) _ c.images_of-ys.ensures.0
       ∙ ap (args (bytes seen) (k seen)) (q_is looked)
 
-mul-number : tie.Need-offset_bounds-owns-i invariant_loop decreases_loop
-mul-number c = omega (arith, i_small (turn (looked c)))
-
-shared-slice-read-number : tie.Need-bounds-owns-i invariant_loop decreases_loop
-shared-slice-read-number c =
-    let t = turn (looked c.before) in
-    let long = (start t).requires.4 in
-    omega (arith, i_small t)
-
 -- the own variable of the application
 own_is : (c : tie.After-number-own invariant_loop decreases_loop) → c.number-own.result ≡ (app (turn (looked c.before.before))).own
 own_is c = let t = turn (looked c.before.before) in c.number-own.ensures ∙ (start t).requires.4.app_own (i t) (i_few t)
 
-lay-choice-requires : tie.Need-lay_choice-at-requires invariant_loop decreases_loop
-lay-choice-requires c κs =
+lay_choice-at-requires : tie.Need-lay_choice-at-requires invariant_loop decreases_loop
+lay_choice-at-requires c κs =
     let arg = c.before.before.before in
     let t = turn (looked arg) in
     let inv = t.loop-i.invariant in
@@ -216,8 +207,8 @@ lay-choice-requires c κs =
       omega (arith, inv.long, p.3),
     )
 
-loop_again : tie.Need-loop-i-preserved-then-same_symbol invariant_loop decreases_loop
-loop_again c =
+loop-i-preserved-then-same_symbol : tie.Need-loop-i-preserved-then-same_symbol invariant_loop decreases_loop
+loop-i-preserved-then-same_symbol c =
     let owned = c.before.before.before.before in
     let arg = owned.before.before in
     let t = turn (looked arg) in
@@ -228,8 +219,8 @@ loop_again c =
     (lays_as (λ u l. chosen_one_lem s (k (read t)) (app t) _ _ _ _ choice (own_is owned) (xs_whole arg) (ys_whole arg) u) refl laid.ensures.0)
     laid.ensures.1 laid.ensures.2 laid.auto.work
 
-loop-again-2 : tie.Need-loop-i-preserved invariant_loop decreases_loop
-loop-again-2 c =
+loop-i-preserved : tie.Need-loop-i-preserved invariant_loop decreases_loop
+loop-i-preserved c =
     let t = c.before.before.before.before in
     let other = sym (tested c.before.before) ∙ sym c.same_symbol.ensures ∙ c.if-same_symbol.false in
     choosing_other (bytes (read t)) (k (read t)) _ _ _ _ _ t.loop-i.invariant t.loop-i-test.true other
@@ -252,20 +243,20 @@ lay_choices_spec =
     (λ c κs. search rules)
     (λ c κs. search rules)
     (λ c. search rules)
-    add_at
-    loop_holds
+    overflow_add-at
+    loop-i-init
     (λ c. search rules)
-    shared-slice-read-wide-2
+    bounds-apps-i
     (λ c κs. search rules)
-    same-symbol-requires
-    images-of-requires-2
-    mul-number
-    shared-slice-read-number
+    same_symbol-requires
+    images_of-ys-requires
+    (λ c. omega (arith, i_small (turn (looked c))))
+    (λ c. let long = (start (turn (looked c.before))).requires.4 in omega (arith, i_small (turn (looked c.before))))
     (λ c κs. search rules)
-    lay-choice-requires
+    lay_choice-at-requires
     (λ c. search rules)
-    loop_again
+    loop-i-preserved-then-same_symbol
     (λ c. search rules)
-    loop-again-2
+    loop-i-preserved
     (λ c. search rules)
     returns)

@@ -33,16 +33,16 @@ module _ (c : tie.After-lay) where
       condition_of xs ys start.requires.2.long start.requires.3.long n t
       ∙ ap (λ k. condition t (take k xs) (take k ys)) (sym e)
 
-returns : tie.Need-returns-then-arity-eq1
-returns c =
+returns-then-arity-eq1 : tie.Need-returns-then-arity-eq1
+returns-then-arity-eq1 c =
     let first = c.before.before.before in (
       lays_as (λ t l. asked first 1 c.if-arity-eq1.true t) refl first.lay.ensures,
       omega arith,
       omega arith,
     )
 
-returns_2 : tie.Need-returns-then-arity-eq2
-returns_2 c =
+returns-then-arity-eq2 : tie.Need-returns-then-arity-eq2
+returns-then-arity-eq2 c =
     let second = c.before.before.before in
     let first = second.before.before.before.before.before in (
       lays_as (λ t l. asked first 2 c.if-arity-eq2.true t) (omega arith)
@@ -51,8 +51,8 @@ returns_2 c =
       omega arith,
     )
 
-returns_3 : tie.Need-returns
-returns_3 c =
+returns : tie.Need-returns
+returns c =
     let third = c.before.before in
     let second = third.before.before.before.before.before in
     let first = second.before.before.before.before.before in (
@@ -71,18 +71,18 @@ lay_condition_spec =
     (λ c κs. search rules)
     (λ c. search rules)
     (λ c. search rules)
-    returns
+    returns-then-arity-eq1
     (λ c. search rules)
     (λ c. search rules)
     (λ c. search rules)
     (λ c κs. search rules)
     (λ c. search rules)
     (λ c. search rules)
-    returns_2
+    returns-then-arity-eq2
     (λ c. search rules)
     (λ c. search rules)
     (λ c. search rules)
     (λ c κs. search rules)
     (λ c. search rules)
     (λ c. search rules)
-    returns_3)
+    returns)

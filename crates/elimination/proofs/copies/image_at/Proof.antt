@@ -50,8 +50,8 @@ module _ (c : tie.After-wants) where
       ∙ sym c.arity_of-arity.ensures.0)
       ∙ sym c.wants.ensures
 
-returns : tie.Need-returns-in-Unused
-returns c =
+returns-in-Unused : tie.Need-returns-in-Unused
+returns-in-Unused c =
     let read = c.before in
     let images = (state_at (bytes read) (start read).args.k).images in
     let unused = is_wanted_lem read ∙ ap wanted_read c.in-Unused.is in
@@ -81,13 +81,13 @@ module _ (c : tie.After-two_at-operand) where
         used = is_wanted_lem c.before.before ∙ e;
       }
 
-shared-slice-read-number : tie.Need-bounds-images-operand
-shared-slice-read-number c =
+bounds-images-operand : tie.Need-bounds-images-operand
+bounds-images-operand c =
     let at = c.before in
     omega (arith, field_read at, operand_before _ _ _ _ (in_use at), (entry at).requires.6)
 
-returns_2 : tie.Need-returns
-returns_2 c =
+returns : tie.Need-returns
+returns c =
     let at = c.before.before in
     let images = (entry at).args.images.now in
     let are = (entry at).requires.7 in
@@ -108,12 +108,12 @@ image_at_spec =
     (λ c. search rules)
     (λ c κs. search rules)
     (λ c. search rules)
-    returns
+    returns-in-Unused
     (λ c. search rules)
     (λ c. search rules)
     (λ c. search rules)
     (λ c κs. search rules)
     (λ c. search rules)
-    shared-slice-read-number
+    bounds-images-operand
     (λ c κs. search rules)
-    returns_2)
+    returns)

@@ -7,23 +7,23 @@ use Rattle.lines.proofs.Writing.{wrote_as}
 use Rattle.lines.proofs.answer.put_answer.Statement.{statement}
 use Rattle.lines.proofs.answer.put_answer.Tie as tie
 
-returns : tie.Need-returns-in-Valid
-returns c =
+returns-in-Valid : tie.Need-returns-in-Valid
+returns-in-Valid c =
     let three = c.put_three.ensures in
     (wrote_as three.0 (said_as c.in-Valid.is), omega arith)
 
-returns_2 : tie.Need-returns-in-Falsified
-returns_2 c =
+returns-in-Falsified : tie.Need-returns-in-Falsified
+returns-in-Falsified c =
     let three = c.put_three-in-Falsified.ensures in
     (wrote_as three.0 (said_as c.in-Falsified.is), omega arith)
 
-returns_3 : tie.Need-returns-in-Stopped
-returns_3 c =
+returns-in-Stopped : tie.Need-returns-in-Stopped
+returns-in-Stopped c =
     let three = c.put_three-in-Stopped.ensures in
     (wrote_as three.0 (said_as c.in-Stopped.is), omega arith)
 
-returns_4 : tie.Need-returns-in-Refused
-returns_4 c =
+returns-in-Refused : tie.Need-returns-in-Refused
+returns-in-Refused c =
     let three = c.put_three-in-Refused.ensures in
     let number = c.number_of.ensures in
     let place = c.place_of.ensures in
@@ -46,10 +46,10 @@ put_answer_spec =
     (λ c κs. search rules)
     (λ c κs. search rules)
     (λ c. search rules)
-    returns
+    returns-in-Valid
     (λ c. search rules)
-    returns_2
+    returns-in-Falsified
     (λ c. search rules)
-    returns_3
+    returns-in-Stopped
     (λ c. search rules)
-    returns_4)
+    returns-in-Refused)

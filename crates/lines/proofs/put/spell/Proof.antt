@@ -14,46 +14,46 @@ invariant_loop n digits₀ i₀ rest₀ digits i rest = (length digits ≡ 20) �
 abbrev decreases_loop : tie.decreases-loop-rest
 decreases_loop n digits₀ i₀ rest₀ digits i rest = rest
 
-loop_holds : tie.Need-loop-rest-init invariant_loop decreases_loop
-loop_holds c = (c.requires, spelling_none c.args.n c.args.digits.now c.requires (omega arith))
+loop-rest-init : tie.Need-loop-rest-init invariant_loop decreases_loop
+loop-rest-init c = (c.requires, spelling_none c.args.n c.args.digits.now c.requires (omega arith))
 
-sub-i : tie.Need-overflow_sub-i invariant_loop decreases_loop
-sub-i c = omega arith
+overflow_sub-i : tie.Need-overflow_sub-i invariant_loop decreases_loop
+overflow_sub-i c = omega arith
 
-cast-digits : tie.Need-overflow_cast-digits invariant_loop decreases_loop
-cast-digits c = omega arith
+overflow_cast-digits : tie.Need-overflow_cast-digits invariant_loop decreases_loop
+overflow_cast-digits c = omega arith
 
-add-digits : tie.Need-overflow_add-digits invariant_loop decreases_loop
-add-digits c = omega arith
+overflow_add-digits : tie.Need-overflow_add-digits invariant_loop decreases_loop
+overflow_add-digits c = omega arith
 
-slice-write-digits : tie.Need-bounds-digits-i invariant_loop decreases_loop
-slice-write-digits c = omega arith
+bounds-digits-i : tie.Need-bounds-digits-i invariant_loop decreases_loop
+bounds-digits-i c = omega arith
 
-loop_less : tie.Need-loop-rest-smaller invariant_loop decreases_loop
-loop_less c = omega arith
+loop-rest-smaller : tie.Need-loop-rest-smaller invariant_loop decreases_loop
+loop-rest-smaller c = omega arith
 
-loop_again : tie.Need-loop-rest-preserved invariant_loop decreases_loop
-loop_again c =
+loop-rest-preserved : tie.Need-loop-rest-preserved invariant_loop decreases_loop
+loop-rest-preserved c =
     let s = c.loop-rest in
     let l = s.invariant.0 in (
       length-set s.digits (s.i - 1) (48 + s.rest % 10) ∙ l,
       spelling_more c.args.n s.digits s.i s.rest l s.invariant.1 (omega arith),
     )
 
-sub-i-2 : tie.Need-overflow_sub-i-2 invariant_loop decreases_loop
-sub-i-2 c = omega arith
+overflow_sub-i-2 : tie.Need-overflow_sub-i-2 invariant_loop decreases_loop
+overflow_sub-i-2 c = omega arith
 
-cast-digits-2 : tie.Need-overflow_cast-digits-2 invariant_loop decreases_loop
-cast-digits-2 c = omega arith
+overflow_cast-digits-2 : tie.Need-overflow_cast-digits-2 invariant_loop decreases_loop
+overflow_cast-digits-2 c = omega arith
 
-add-digits-2 : tie.Need-overflow_add-digits-2 invariant_loop decreases_loop
-add-digits-2 c = omega arith
+overflow_add-digits-2 : tie.Need-overflow_add-digits-2 invariant_loop decreases_loop
+overflow_add-digits-2 c = omega arith
 
-slice-write-digits-2 : tie.Need-bounds-digits-i-2 invariant_loop decreases_loop
-slice-write-digits-2 c = omega arith
+bounds-digits-i-2 : tie.Need-bounds-digits-i-2 invariant_loop decreases_loop
+bounds-digits-i-2 c = omega arith
 
-same_length : tie.Need-shape_of-digits invariant_loop decreases_loop
-same_length c =
+shape_of-digits : tie.Need-shape_of-digits invariant_loop decreases_loop
+shape_of-digits c =
     let s = c.loop-rest in
     length-set s.digits (s.i - 1) (48 + s.rest) ∙ s.invariant.0 ∙ sym c.requires
 
@@ -69,16 +69,16 @@ spell_spec =
     (tie.spec
     invariant_loop
     decreases_loop
-    loop_holds
-    sub-i
-    cast-digits
-    add-digits
-    slice-write-digits
-    loop_less
-    loop_again
-    sub-i-2
-    cast-digits-2
-    add-digits-2
-    slice-write-digits-2
-    same_length
+    loop-rest-init
+    overflow_sub-i
+    overflow_cast-digits
+    overflow_add-digits
+    bounds-digits-i
+    loop-rest-smaller
+    loop-rest-preserved
+    overflow_sub-i-2
+    overflow_cast-digits-2
+    overflow_add-digits-2
+    bounds-digits-i-2
+    shape_of-digits
     returns)

@@ -17,8 +17,8 @@ invariant_loop tail₀ bytes i₀ tail i = (tail ≡ paste tail₀ 0 bytes i) ×
 abbrev decreases_loop : tie.decreases-loop-i
 decreases_loop tail₀ bytes i₀ tail i = length bytes - i
 
-loop_holds : tie.Need-loop-i-init invariant_loop decreases_loop
-loop_holds c = (paste-zero c.args.tail.now 0 c.args.bytes.now, omega arith)
+loop-i-init : tie.Need-loop-i-init invariant_loop decreases_loop
+loop-i-init c = (paste-zero c.args.tail.now 0 c.args.bytes.now, omega arith)
 
 -- the copy so far is as long as the tail
 kept : (c : tie.At-loop-i invariant_loop decreases_loop) → length c.loop-i.tail ≡ length c.args.tail.now
@@ -26,20 +26,20 @@ kept c =
     let s = c.args in
     ap length c.loop-i.invariant.0 ∙ length-paste s.tail.now 0 s.bytes.now c.loop-i.i (omega arith) (omega arith)
 
-shared-slice-read-tail : tie.Need-bounds-bytes-i invariant_loop decreases_loop
-shared-slice-read-tail c = omega arith
+bounds-bytes-i : tie.Need-bounds-bytes-i invariant_loop decreases_loop
+bounds-bytes-i c = omega arith
 
-slice-write-tail : tie.Need-bounds-tail-i invariant_loop decreases_loop
-slice-write-tail c = let k = kept c.before.before in omega arith
+bounds-tail-i : tie.Need-bounds-tail-i invariant_loop decreases_loop
+bounds-tail-i c = let k = kept c.before.before in omega arith
 
-add-i : tie.Need-overflow_add-i invariant_loop decreases_loop
-add-i c = omega arith
+overflow_add-i : tie.Need-overflow_add-i invariant_loop decreases_loop
+overflow_add-i c = omega arith
 
-loop_less : tie.Need-loop-i-smaller invariant_loop decreases_loop
-loop_less c = omega arith
+loop-i-smaller : tie.Need-loop-i-smaller invariant_loop decreases_loop
+loop-i-smaller c = omega arith
 
-loop_again : tie.Need-loop-i-preserved invariant_loop decreases_loop
-loop_again c =
+loop-i-preserved : tie.Need-loop-i-preserved invariant_loop decreases_loop
+loop-i-preserved c =
     let s = c.args in
     let i = c.loop-i.i in
     let b = get_or s.bytes.now i 0 in (
@@ -49,8 +49,8 @@ loop_again c =
       omega arith,
     )
 
-same_length : tie.Need-shape_of-tail invariant_loop decreases_loop
-same_length c = kept c.before
+shape_of-tail : tie.Need-shape_of-tail invariant_loop decreases_loop
+shape_of-tail c = kept c.before
 
 returns : tie.Need-returns invariant_loop decreases_loop
 returns c =
@@ -66,11 +66,11 @@ put_spec =
     (tie.spec
     invariant_loop
     decreases_loop
-    loop_holds
-    shared-slice-read-tail
-    slice-write-tail
-    add-i
-    loop_less
-    loop_again
-    same_length
+    loop-i-init
+    bounds-bytes-i
+    bounds-tail-i
+    overflow_add-i
+    loop-i-smaller
+    loop-i-preserved
+    shape_of-tail
     returns)

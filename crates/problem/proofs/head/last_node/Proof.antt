@@ -13,12 +13,12 @@ use Rattle.problem.proofs.head.last_node.Tie as tie
 counted : (s : List ℕ) → length (nodes_of s) ≡ node_count s
 counted s = length_nodes_at s (8 + symbol_count s) (node_count s)
 
-returns_2 : tie.Need-returns-then-nodes-eq0
-returns_2 c long =
+returns-then-nodes-eq0 : tie.Need-returns-then-nodes-eq0
+returns-then-nodes-eq0 c long =
     omega (arith, counted c.args.s.now, c.two_at-nodes.ensures.0, c.if-nodes-eq0.true)
 
-returns_3 : tie.Need-returns
-returns_3 c long =
+returns : tie.Need-returns
+returns c long =
     omega (arith, counted c.args.s.now, c.two_at-nodes.ensures.0)
 
 pub last_node_spec : {M : Type 1} → statement M
@@ -27,6 +27,6 @@ last_node_spec =
     (tie.spec
     (λ c. search rules)
     (λ c κs. search rules)
-    returns_2
+    returns-then-nodes-eq0
     (λ c. search rules)
-    returns_3)
+    returns)

@@ -97,60 +97,60 @@ module _ (s : List ℕ) where
       let whole : length s ≡ 8 + symbol_count s + 8 * node_count s = omega arith in
       (h, passed_if s 4 _ refl (passed_4 k) (ap not (eq-eqb _ _ whole)))
 
-returns : tie.Need-returns-then-s-lt8
-returns c = too_short _ (omega arith)
+returns-then-s-lt8 : tie.Need-returns-then-s-lt8
+returns-then-s-lt8 c = too_short _ (omega arith)
 
-returns_2 : tie.Need-returns-then-s
-returns_2 c = wrong_letter _ (omega arith) 0 (omega arith) c.if-s.true
+returns-then-s : tie.Need-returns-then-s
+returns-then-s c = wrong_letter _ (omega arith) 0 (omega arith) c.if-s.true
 
-returns_3 : tie.Need-returns-then-s-2
-returns_3 c = wrong_letter _ (omega arith) 1 (omega arith) c.if-s-2.true
+returns-then-s-2 : tie.Need-returns-then-s-2
+returns-then-s-2 c = wrong_letter _ (omega arith) 1 (omega arith) c.if-s-2.true
 
-returns_4 : tie.Need-returns-then-s-3
-returns_4 c = wrong_letter _ (omega arith) 2 (omega arith) c.if-s-3.true
+returns-then-s-3 : tie.Need-returns-then-s-3
+returns-then-s-3 c = wrong_letter _ (omega arith) 2 (omega arith) c.if-s-3.true
 
-returns_5 : tie.Need-returns-then-two_at-ne1
-returns_5 c = wrong_version _ (omega arith) (omega arith)
+returns-then-two_at-ne1 : tie.Need-returns-then-two_at-ne1
+returns-then-two_at-ne1 c = wrong_version _ (omega arith) (omega arith)
 
-returns_6 : tie.Need-returns-then-symbols-gt32
-returns_6 c = wrong_counts _ (omega arith) (inl (omega arith))
+returns-then-symbols-gt32 : tie.Need-returns-then-symbols-gt32
+returns-then-symbols-gt32 c = wrong_counts _ (omega arith) (inl (omega arith))
 
-returns-7 : tie.Need-returns-then-nodes-eq0
-returns-7 c = wrong_counts _ (omega arith) (inr (inl (omega arith)))
+returns-then-nodes-eq0 : tie.Need-returns-then-nodes-eq0
+returns-then-nodes-eq0 c = wrong_counts _ (omega arith) (inr (inl (omega arith)))
 
-returns-8 : tie.Need-returns-then-nodes-gt256
-returns-8 c = wrong_counts _ (omega arith) (inr (inr (omega arith)))
+returns-then-nodes-gt256 : tie.Need-returns-then-nodes-gt256
+returns-then-nodes-gt256 c = wrong_counts _ (omega arith) (inr (inr (omega arith)))
 
-returns-9 : tie.Need-returns-then-s-symbols
-returns-9 c = wrong_length _ (omega arith) (omega arith)
+returns-then-s-symbols : tie.Need-returns-then-s-symbols
+returns-then-s-symbols c = wrong_length _ (omega arith) (omega arith)
 
-returns-10 : tie.Need-returns
-returns-10 c = fine _ (omega arith) (omega arith)
+returns : tie.Need-returns
+returns c = fine _ (omega arith) (omega arith)
 
 pub read_head_spec : {M : Type 1} → statement M
 read_head_spec =
     tie.close
     (tie.spec
-    returns
+    returns-then-s-lt8
     (λ c. search rules)
     (λ c. search rules)
-    returns_2
+    returns-then-s
     (λ c. search rules)
     (λ c. search rules)
-    returns_3
+    returns-then-s-2
     (λ c. search rules)
     (λ c. search rules)
-    returns_4
+    returns-then-s-3
     (λ c κs. search rules)
-    returns_5
+    returns-then-two_at-ne1
     (λ c. search rules)
     (λ c κs. search rules)
     (λ c κs. search rules)
-    returns_6
-    returns-7
-    returns-8
+    returns-then-symbols-gt32
+    returns-then-nodes-eq0
+    returns-then-nodes-gt256
     (λ c. search rules)
     (λ c. search rules)
     (λ c. search rules)
-    returns-9
-    returns-10)
+    returns-then-s-symbols
+    returns)

@@ -7,14 +7,14 @@ use Rattle.problem.proofs.NodeLaws.{symbol_symbols_of, arity_past}
 use Rattle.problem.proofs.nodes.arity_of.Statement.{statement}
 use Rattle.problem.proofs.nodes.arity_of.Tie as tie
 
-returns : tie.Need-returns-then-k-header
-returns c =
+returns-then-k-header : tie.Need-returns-then-k-header
+returns-then-k-header c =
     let start = c.before.before.before.before.before in
     let byte = symbol_symbols_of start.requires start.args.k (omega arith) in
     omega arith
 
-returns_2 : tie.Need-returns-else-k-header
-returns_2 c = (sym (arity_past c.requires _ (omega arith)), omega arith)
+returns-else-k-header : tie.Need-returns-else-k-header
+returns-else-k-header c = (sym (arity_past c.requires _ (omega arith)), omega arith)
 
 pub arity_of_spec : {M : Type 1} → statement M
 arity_of_spec =
@@ -23,5 +23,5 @@ arity_of_spec =
     (λ c. search rules)
     (λ c. search rules)
     (λ c κs. search rules)
-    returns
-    returns_2)
+    returns-then-k-header
+    returns-else-k-header)

@@ -20,8 +20,8 @@ invariant_loop s header k₀ k =
 abbrev decreases_loop : tie.decreases-loop-k
 decreases_loop s header k₀ k = header.nodes - k
 
-loop_holds : tie.Need-loop-k-init invariant_loop decreases_loop
-loop_holds c = (omega arith, refl)
+loop-k-init : tie.Need-loop-k-init invariant_loop decreases_loop
+loop-k-init c = (omega arith, refl)
 
 -- at the loop's head: the symbol bytes, and the nodes, as many as the header says
 module _ (c : tie.At-loop-k invariant_loop decreases_loop) where
@@ -34,30 +34,30 @@ module _ (c : tie.At-loop-k invariant_loop decreases_loop) where
   count : length table ≡ c.args.header.nodes
   count = length_nodes_of c.requires
 
-returns : tie.Need-returns-then-not-node_right invariant_loop decreases_loop
-returns c =
+returns-then-not-node_right : tie.Need-returns-then-not-node_right invariant_loop decreases_loop
+returns-then-not-node_right c =
     let head = c.before.before.before.before in
     sym
     (wrong_here (symbol_bytes head) (table head) head.loop-k.k (omega (arith, count head))
     (rw (← c.node_right.ensures) (c.if-not-node_right.true)))
     ∙ head.loop-k.invariant.1
 
-add-k : tie.Need-overflow_add-k invariant_loop decreases_loop
-add-k c = omega arith
+overflow_add-k : tie.Need-overflow_add-k invariant_loop decreases_loop
+overflow_add-k c = omega arith
 
-loop_less : tie.Need-loop-k-smaller invariant_loop decreases_loop
-loop_less c = omega arith
+loop-k-smaller : tie.Need-loop-k-smaller invariant_loop decreases_loop
+loop-k-smaller c = omega arith
 
-loop_again : tie.Need-loop-k-preserved invariant_loop decreases_loop
-loop_again c =
+loop-k-preserved : tie.Need-loop-k-preserved invariant_loop decreases_loop
+loop-k-preserved c =
     let head = c.before.before.before.before in
     let later =
     wrong_later (symbol_bytes head) (table head) head.loop-k.k (omega (arith, count head))
     (rw (← c.node_right.ensures) (c.if-not-node_right.false)) in
     (omega arith, sym later ∙ head.loop-k.invariant.1)
 
-returns_2 : tie.Need-returns invariant_loop decreases_loop
-returns_2 c =
+returns : tie.Need-returns invariant_loop decreases_loop
+returns c =
     let head = c.before.before in
     sym (wrong_nowhere (symbol_bytes head) (table head) head.loop-k.k (omega (arith, count head))) ∙ head.loop-k.invariant.1
 
@@ -67,10 +67,10 @@ first_wrong_spec =
     (tie.spec
     invariant_loop
     decreases_loop
-    loop_holds
+    loop-k-init
     (λ c κs. search rules)
-    returns
-    add-k
-    loop_less
-    loop_again
-    returns_2)
+    returns-then-not-node_right
+    overflow_add-k
+    loop-k-smaller
+    loop-k-preserved
+    returns)

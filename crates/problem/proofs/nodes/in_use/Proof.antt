@@ -43,20 +43,21 @@ none_used (suc (suc (suc (suc (suc (suc (suc (suc zero)))))))) ar h q = refl
 none_used (suc (suc (suc (suc (suc (suc (suc (suc (suc zero))))))))) ar h q = absurd (q refl)
 none_used (suc (suc (suc (suc (suc (suc (suc (suc (suc (suc op)))))))))) ar h q = refl
 
-returns : tie.Need-returns-in-0
-returns c = sym (app_used _ _ c.in-0.is)
+returns-in-0 : tie.Need-returns-in-0
+returns-in-0 c = sym (app_used _ _ c.in-0.is)
 
-returns_2 : tie.Need-returns-in-1
-returns_2 c = sym (choice_used _ _ c.in-1.is)
+returns-in-1 : tie.Need-returns-in-1
+returns-in-1 c = sym (choice_used _ _ c.in-1.is)
 
-returns_4 : tie.Need-returns-in_default
-returns_4 c =
+-- past the other arms
+returns-in_default : tie.Need-returns-in_default
+returns-in_default c =
     let rest = c.in_default.in_default-own.rest in
     let not_six : c.args.op ≡ 6 → ⊥ = λ e. rest.0.0.0.1 (inr e) in
     sym (none_used _ _ (omega arith) (λ e. rest.0.0.1 (inr e)))
 
-returns_6 : tie.Need-returns-in-2-2
-returns_6 c =
+returns-in-2-2 : tie.Need-returns-in-2-2
+returns-in-2-2 c =
     let rest = c.in-2.in_default-own.rest in
     let op = c.args.op in
     let not_0 : op ≡ 0 → ⊥ = λ e. rest.0.0.0.1 (inl e) in
@@ -69,9 +70,9 @@ pub in_use_spec : {M : Type 1} → statement M
 in_use_spec =
     tie.close
     (tie.spec
-    returns
-    returns_2
+    returns-in-0
+    returns-in-1
     (λ c. search rules)
-    returns_4
+    returns-in_default
     (λ c. search rules)
-    returns_6)
+    returns-in-2-2)

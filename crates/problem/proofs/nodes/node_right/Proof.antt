@@ -55,8 +55,8 @@ symbol_tested c =
     ap₂ (λ (op k : ℕ). symbol_right (symbols (start c.before)) (op_of op) k) (op_read c.before) (symbol_read c.before)
     ∙ sym c.symbol_right.ensures
 
-returns : tie.Need-returns-then-not-symbol_right
-returns c = rw (symbol_tested c.before ∙ c.if-not-symbol_right.true)
+returns-then-not-symbol_right : tie.Need-returns-then-not-symbol_right
+returns-then-not-symbol_right c = rw (symbol_tested c.before ∙ c.if-not-symbol_right.true)
 
 -- where it is, node k is right if its three fields are, and a field is tested for what is wanted there
 module _ (c : tie.After-arity_of-arity) where
@@ -81,8 +81,8 @@ module _ (c : tie.After-arity_of-arity) where
 field_0 : (c : tie.After-operand_right) → right_at (entry c.before.before) 0 ≡ c.operand_right.result
 field_0 c = sym (c.operand_right.ensures ∙ field c.before.before 0 _ c.wants.ensures)
 
-returns_2 : tie.Need-returns-then-not-operand_right
-returns_2 c = rw (fields c.before.before.before, field_0 c.before ∙ c.if-not-operand_right.true)
+returns-then-not-operand_right : tie.Need-returns-then-not-operand_right
+returns-then-not-operand_right c = rw (fields c.before.before.before, field_0 c.before ∙ c.if-not-operand_right.true)
 
 field_1 : (c : tie.After-operand_right-2) →
     right_at (entry c.before.before.before.before.before) 1 ≡ c.operand_right-2.result
@@ -93,13 +93,13 @@ field_1 c =
 field_0_right : (c : tie.Else-not-operand_right) → right_at (entry c.before.before.before) 0 ≡ true
 field_0_right c = field_0 c.before ∙ c.if-not-operand_right.false
 
-returns_3 : tie.Need-returns-then-not-operand_right-2
-returns_3 c =
+returns-then-not-operand_right-2 : tie.Need-returns-then-not-operand_right-2
+returns-then-not-operand_right-2 c =
     let first = c.before.before.before in
     rw (fields first.before.before.before, field_0_right first, field_1 c.before ∙ c.if-not-operand_right-2.true)
 
-returns_4 : tie.Need-returns
-returns_4 c =
+returns : tie.Need-returns
+returns c =
     let second = c.before.before in
     let first = second.before.before.before in
     let read = first.before.before.before in
@@ -116,14 +116,14 @@ node_right_spec =
     (λ c. search rules)
     (λ c κs. search rules)
     (λ c κs. search rules)
-    returns
+    returns-then-not-symbol_right
     (λ c κs. search rules)
     (λ c κs. search rules)
     (λ c κs. search rules)
-    returns_2
+    returns-then-not-operand_right
     (λ c κs. search rules)
     (λ c κs. search rules)
-    returns_3
+    returns-then-not-operand_right-2
     (λ c κs. search rules)
     (λ c κs. search rules)
-    returns_4)
+    returns)

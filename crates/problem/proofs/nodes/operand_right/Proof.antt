@@ -28,29 +28,29 @@ module _ (c : tie.After-two_at-operand) where
   among : start.args.k ≤ length (nodes_of start.args.s.now)
   among = omega (arith, length_nodes_of start.requires.0)
 
-returns : tie.Need-returns-in-Unused
-returns c = rw (c.in-Unused.is, operand c.before) (eqb_swap c.two_at-operand.result 0)
+returns-in-Unused : tie.Need-returns-in-Unused
+returns-in-Unused c = rw (c.in-Unused.is, operand c.before) (eqb_swap c.two_at-operand.result 0)
 
-returns_2 : tie.Need-returns-then-operand-k
-returns_2 c =
+returns-then-operand-k : tie.Need-returns-then-operand-k
+returns-then-operand-k c =
     let read = c.before.before.before in
     rw (c.in-Term.is, operand read)
     (c.is_term.ensures ∙ sym (slot_earlier _ _ _ term (among read) c.if-operand-k.true))
 
-returns_3 : tie.Need-returns-else-operand-k
-returns_3 c =
+returns-else-operand-k : tie.Need-returns-else-operand-k
+returns-else-operand-k c =
     let read = c.before.before in
     rw (c.in-Term.is, operand read)
     (le-ltb _ _ c.if-operand-k.false ∙ sym (slot_later _ _ _ term (among read) c.if-operand-k.false))
 
-returns_4 : tie.Need-returns-then-operand-k-2
-returns_4 c =
+returns-then-operand-k-2 : tie.Need-returns-then-operand-k-2
+returns-then-operand-k-2 c =
     let read = c.before.before.before in
     rw (c.in-Formula.is, operand read)
     (ap not c.is_term-then-operand-k-2.ensures ∙ sym (slot_formula _ _ _ (among read) c.if-operand-k-2.true))
 
-returns_5 : tie.Need-returns-else-operand-k-2
-returns_5 c =
+returns-else-operand-k-2 : tie.Need-returns-else-operand-k-2
+returns-else-operand-k-2 c =
     let read = c.before.before in
     rw (c.in-Formula.is, operand read)
     (le-ltb _ _ c.if-operand-k-2.false ∙ sym (slot_later _ _ _ formula (among read) c.if-operand-k-2.false))
@@ -69,8 +69,8 @@ operand_right_spec =
     (λ c κs. search rules)
     (λ c. search rules)
     (λ c κs. search rules)
-    returns
-    returns_2
-    returns_3
-    returns_4
-    returns_5)
+    returns-in-Unused
+    returns-then-operand-k
+    returns-else-operand-k
+    returns-then-operand-k-2
+    returns-else-operand-k-2)

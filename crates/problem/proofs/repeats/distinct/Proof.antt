@@ -23,20 +23,20 @@ invariant_loop s header op count₀ k₀ count k =
 abbrev decreases_loop : tie.decreases-loop-k
 decreases_loop s header op count₀ k₀ count k = header.nodes - k
 
-loop_holds : tie.Need-loop-k-init invariant_loop decreases_loop
-loop_holds c = omega arith
+loop-k-init : tie.Need-loop-k-init invariant_loop decreases_loop
+loop-k-init c = omega arith
 
-shared-slice-read-if2 : tie.Need-bounds-s-node_at invariant_loop decreases_loop
-shared-slice-read-if2 c = omega arith
+bounds-s-node_at : tie.Need-bounds-s-node_at invariant_loop decreases_loop
+bounds-s-node_at c = omega arith
 
-add-count : tie.Need-overflow_add-count invariant_loop decreases_loop
-add-count c = omega arith
+overflow_add-count : tie.Need-overflow_add-count invariant_loop decreases_loop
+overflow_add-count c = omega arith
 
-add-k : tie.Need-overflow_add-k invariant_loop decreases_loop
-add-k c = omega arith
+overflow_add-k : tie.Need-overflow_add-k invariant_loop decreases_loop
+overflow_add-k c = omega arith
 
-loop_less : tie.Need-loop-k-smaller invariant_loop decreases_loop
-loop_less c = omega arith
+loop-k-smaller : tie.Need-loop-k-smaller invariant_loop decreases_loop
+loop-k-smaller c = omega arith
 
 -- at the loop's head: the nodes, as many as the header says
 module _ (c : tie.At-loop-k invariant_loop decreases_loop) where
@@ -62,8 +62,8 @@ module _ (c : tie.After-shared_slice_known-in-loop-k-1 invariant_loop decreases_
       ap (λ (n : Node). n.op)
       (node_stands head.requires _ _ c.node_at.ensures c.loop-k-test.true)
 
-loop_again : tie.Need-loop-k-preserved invariant_loop decreases_loop
-loop_again c =
+loop-k-preserved : tie.Need-loop-k-preserved invariant_loop decreases_loop
+loop-k-preserved c =
     let at = head c.before in
     let k = at.loop-k.k in
     let h = k_among c.before in
@@ -93,14 +93,14 @@ distinct_spec =
     (tie.spec
     invariant_loop
     decreases_loop
-    loop_holds
+    loop-k-init
     (λ c κs. search rules)
-    shared-slice-read-if2
+    bounds-s-node_at
     (λ c κs. search rules)
     (λ c. search rules)
-    add-count
+    overflow_add-count
     (λ c. search rules)
-    add-k
-    loop_less
-    loop_again
+    overflow_add-k
+    loop-k-smaller
+    loop-k-preserved
     returns)

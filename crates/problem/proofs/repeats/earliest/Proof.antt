@@ -21,14 +21,14 @@ invariant-scan s header k j₀ j =
 abbrev decreases-scan : tie.decreases-scan
 decreases-scan s header k j₀ j = k - j
 
-scan-holds : tie.Need-scan-init invariant-scan decreases-scan
-scan-holds c = (omega arith, refl)
+scan-init : tie.Need-scan-init invariant-scan decreases-scan
+scan-init c = (omega arith, refl)
 
-add-j : tie.Need-overflow_add-j invariant-scan decreases-scan
-add-j c = omega arith
+overflow_add-j : tie.Need-overflow_add-j invariant-scan decreases-scan
+overflow_add-j c = omega arith
 
-scan-less : tie.Need-scan-smaller invariant-scan decreases-scan
-scan-less c = omega arith
+scan-smaller : tie.Need-scan-smaller invariant-scan decreases-scan
+scan-smaller c = omega arith
 
 -- at the scan's head: the nodes, and that node k is one of them
 module _ (c : tie.At-scan invariant-scan decreases-scan) where
@@ -38,21 +38,21 @@ module _ (c : tie.At-scan invariant-scan decreases-scan) where
   k_among : c.args.k ≤ length table
   k_among = omega (arith, length_nodes_of c.requires.0)
 
-scan-again : tie.Need-scan-preserved invariant-scan decreases-scan
-scan-again c =
+scan-preserved : tie.Need-scan-preserved invariant-scan decreases-scan
+scan-preserved c =
     let head = c.before.before.before in
     let later =
     same_later (table head) _ (k_among head) head.scan.j (omega arith)
     (rw (← c.same_nodes.ensures) c.if-same_nodes.false) in
     (omega arith, sym later ∙ head.scan.invariant.1)
 
-returns : tie.Need-returns-then-j-k invariant-scan decreases-scan
-returns c =
+returns-then-j-k : tie.Need-returns-then-j-k invariant-scan decreases-scan
+returns-then-j-k c =
     let head = c.before in
     sym (same_nowhere (table head) _ (k_among head)) ∙ rw c.if-j-k.true at head.scan.invariant.1
 
-returns_2 : tie.Need-returns-then-same_nodes invariant-scan decreases-scan
-returns_2 c =
+returns-then-same_nodes : tie.Need-returns-then-same_nodes invariant-scan decreases-scan
+returns-then-same_nodes c =
     let head = c.before.before.before in
     sym
     (same_here (table head) _ (k_among head) head.scan.j (omega arith)
@@ -65,10 +65,10 @@ earliest_spec =
     (tie.spec
     invariant-scan
     decreases-scan
-    scan-holds
+    scan-init
     (λ c κs. search rules)
-    add-j
-    scan-less
-    scan-again
-    returns
-    returns_2)
+    overflow_add-j
+    scan-smaller
+    scan-preserved
+    returns-then-j-k
+    returns-then-same_nodes)

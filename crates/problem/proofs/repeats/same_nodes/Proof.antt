@@ -12,8 +12,8 @@ use Rattle.problem.proofs.Scans.{head_differs, a_differs, b_differs, c_decides}
 use Rattle.problem.proofs.repeats.same_nodes.Statement.{statement}
 use Rattle.problem.proofs.repeats.same_nodes.Tie as tie
 
-returns : tie.Need-returns-then-not-same_symbol
-returns c =
+returns-then-not-same_symbol : tie.Need-returns-then-not-same_symbol
+returns-then-not-same_symbol c =
     let a = c.args in
     let ns = nodes_of a.s.now in
     sym (head_differs (node ns a.j) (node ns a.k) (sym c.same_symbol.ensures ∙ c.if-not-same_symbol.true))
@@ -38,8 +38,8 @@ module _ (c : tie.After-node_at-b) where
   heads : one_symbol one other ≡ true
   heads = sym (both_stand one_symbol) ∙ sym c.same_symbol.ensures ∙ c.if-not-same_symbol.false
 
-returns_2 : tie.Need-returns-then-two_at
-returns_2 c =
+returns-then-two_at : tie.Need-returns-then-two_at
+returns-then-two_at c =
     let at = c.before.before.before in
     sym (both_stand at same ∙ a_differs (one at) (other at) (heads at)
     (λ e. c.if-two_at.true (c.two_at.ensures.0 ∙ e ∙ sym c.two_at-2.ensures.0)))
@@ -52,15 +52,15 @@ module _ (c : tie.Else-two_at) where
   a_same : (one place).a ≡ (other place).a
   a_same = sym c.two_at.ensures.0 ∙ c.if-two_at.false ∙ c.two_at-2.ensures.0
 
-returns_3 : tie.Need-returns-then-two_at-2
-returns_3 c =
+returns-then-two_at-2 : tie.Need-returns-then-two_at-2
+returns-then-two_at-2 c =
     let second = c.before.before.before in
     let at = place second in
     sym (both_stand at same ∙ b_differs (one at) (other at) (heads at) (a_same second)
     (λ e. c.if-two_at-2.true (c.two_at-3.ensures.0 ∙ e ∙ sym c.two_at-4.ensures.0)))
 
-returns_4 : tie.Need-returns
-returns_4 c =
+returns : tie.Need-returns
+returns c =
     let third = c.before.before in
     let second = third.before.before.before in
     let at = place second in
@@ -73,21 +73,21 @@ same_nodes_spec =
     tie.close
     (tie.spec
     (λ c κs. search rules)
-    returns
+    returns-then-not-same_symbol
     (λ c κs. search rules)
     (λ c κs. search rules)
     (λ c. search rules)
     (λ c κs. search rules)
     (λ c. search rules)
     (λ c κs. search rules)
-    returns_2
+    returns-then-two_at
     (λ c. search rules)
     (λ c κs. search rules)
     (λ c. search rules)
     (λ c κs. search rules)
-    returns_3
+    returns-then-two_at-2
     (λ c. search rules)
     (λ c κs. search rules)
     (λ c. search rules)
     (λ c κs. search rules)
-    returns_4)
+    returns)

@@ -24,13 +24,13 @@ module _ (c : tie.After-node_at-b) where
       ap₂ one_symbol (node_stands p.0 _ _ c.node_at-a.ensures p.1)
       (node_stands p.0 _ _ c.node_at-b.ensures p.2)
 
-returns : tie.Need-returns-then-s-a
-returns c =
+returns-then-s-a : tie.Need-returns-then-s-a
+returns-then-s-a c =
     let read = c.before.before.before in
     sym (nodes_read read ∙ op_differs (there read) (here read) c.if-s-a.true)
 
-returns_2 : tie.Need-returns
-returns_2 c =
+returns : tie.Need-returns
+returns c =
     let same = c.before.before in
     let read = same.before.before.before in
     sym (nodes_read read ∙ symbol_decides (there read) (here read) same.if-s-a.false)
@@ -43,9 +43,9 @@ same_symbol_spec =
     (λ c κs. search rules)
     (λ c. search rules)
     (λ c. search rules)
-    returns
+    returns-then-s-a
     (λ c. search rules)
     (λ c. search rules)
     (λ c. search rules)
     (λ c. search rules)
-    returns_2)
+    returns)

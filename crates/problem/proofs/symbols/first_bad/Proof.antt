@@ -51,36 +51,36 @@ invariant_loop s header k₀ k = Searching s header k
 abbrev decreases_loop : tie.decreases-loop-k
 decreases_loop s header k₀ k = header.symbols - k
 
-loop_holds : tie.Need-loop-k-init invariant_loop decreases_loop
-loop_holds c = record { shaped = c.requires; within = omega arith; same = refl }
+loop-k-init : tie.Need-loop-k-init invariant_loop decreases_loop
+loop-k-init c = record { shaped = c.requires; within = omega arith; same = refl }
 
-add-byte-right : tie.Need-overflow_add-k invariant_loop decreases_loop
-add-byte-right c = omega arith
+overflow_add-k : tie.Need-overflow_add-k invariant_loop decreases_loop
+overflow_add-k c = omega arith
 
-shared-slice-read-byte-right : tie.Need-bounds-s-k invariant_loop decreases_loop
-shared-slice-read-byte-right c = omega arith
+bounds-s-k : tie.Need-bounds-s-k invariant_loop decreases_loop
+bounds-s-k c = omega arith
 
-byte-right-requires : tie.Need-byte_right-requires invariant_loop decreases_loop
-byte-right-requires c κs = tt
+byte_right-requires : tie.Need-byte_right-requires invariant_loop decreases_loop
+byte_right-requires c κs = tt
 
-returns : tie.Need-returns-then-not-byte_right invariant_loop decreases_loop
-returns c =
+returns-then-not-byte_right : tie.Need-returns-then-not-byte_right invariant_loop decreases_loop
+returns-then-not-byte_right c =
     finds c.loop-k.invariant (omega arith)
     (sym c.byte_right.ensures ∙ c.if-not-byte_right.true)
 
-add-k : tie.Need-overflow_add-k-in-loop-k invariant_loop decreases_loop
-add-k c = omega arith
+overflow_add-k-in-loop-k : tie.Need-overflow_add-k-in-loop-k invariant_loop decreases_loop
+overflow_add-k-in-loop-k c = omega arith
 
-loop_less : tie.Need-loop-k-smaller invariant_loop decreases_loop
-loop_less c = omega arith
+loop-k-smaller : tie.Need-loop-k-smaller invariant_loop decreases_loop
+loop-k-smaller c = omega arith
 
-loop_again : tie.Need-loop-k-preserved invariant_loop decreases_loop
-loop_again c =
+loop-k-preserved : tie.Need-loop-k-preserved invariant_loop decreases_loop
+loop-k-preserved c =
     passes c.loop-k.invariant (omega arith)
     (sym c.byte_right.ensures ∙ c.if-not-byte_right.false)
 
-returns_2 : tie.Need-returns invariant_loop decreases_loop
-returns_2 c = finds_nothing c.loop-k.invariant (omega arith)
+returns : tie.Need-returns invariant_loop decreases_loop
+returns c = finds_nothing c.loop-k.invariant (omega arith)
 
 pub first_bad_spec : {M : Type 1} → statement M
 first_bad_spec =
@@ -88,12 +88,12 @@ first_bad_spec =
     (tie.spec
     invariant_loop
     decreases_loop
-    loop_holds
-    add-byte-right
-    shared-slice-read-byte-right
-    byte-right-requires
-    returns
-    add-k
-    loop_less
-    loop_again
-    returns_2)
+    loop-k-init
+    overflow_add-k
+    bounds-s-k
+    byte_right-requires
+    returns-then-not-byte_right
+    overflow_add-k-in-loop-k
+    loop-k-smaller
+    loop-k-preserved
+    returns)

@@ -19,26 +19,26 @@ invariant_loop sets₀ v₀ sets v = (v ≤ 24) × Filled Alone (λ _. 0) 24 v s
 abbrev decreases_loop : tie.decreases-loop-v
 decreases_loop sets₀ v₀ sets v = 24 - v
 
-loop_holds : tie.Need-loop-v-init invariant_loop decreases_loop
-loop_holds c = (omega arith, filled_none Alone (λ _. 0) 24 _ refl (zeros 24))
+loop-v-init : tie.Need-loop-v-init invariant_loop decreases_loop
+loop-v-init c = (omega arith, filled_none Alone (λ _. 0) 24 _ refl (zeros 24))
 
 only-requires : tie.Need-only-requires invariant_loop decreases_loop
 only-requires c κs = omega arith
 
-mul-sets : tie.Need-offset_bounds-sets-v invariant_loop decreases_loop
-mul-sets c = omega arith
+offset_bounds-sets-v : tie.Need-offset_bounds-sets-v invariant_loop decreases_loop
+offset_bounds-sets-v c = omega arith
 
-array-write-sets : tie.Need-bounds-sets-v invariant_loop decreases_loop
-array-write-sets c = omega arith
+bounds-sets-v : tie.Need-bounds-sets-v invariant_loop decreases_loop
+bounds-sets-v c = omega arith
 
-add-v : tie.Need-overflow_add-v invariant_loop decreases_loop
-add-v c = omega arith
+overflow_add-v : tie.Need-overflow_add-v invariant_loop decreases_loop
+overflow_add-v c = omega arith
 
-loop_less : tie.Need-loop-v-smaller invariant_loop decreases_loop
-loop_less c = omega arith
+loop-v-smaller : tie.Need-loop-v-smaller invariant_loop decreases_loop
+loop-v-smaller c = omega arith
 
-loop_again : tie.Need-loop-v-preserved invariant_loop decreases_loop
-loop_again c =
+loop-v-preserved : tie.Need-loop-v-preserved invariant_loop decreases_loop
+loop-v-preserved c =
     let l = c.loop-v in (
       omega arith,
       filled_set Alone (λ _. 0) 24 l.sets l.v (omega arith) l.invariant.1 c.only.result
@@ -54,11 +54,11 @@ alone_spec =
     (tie.spec
     invariant_loop
     decreases_loop
-    loop_holds
+    loop-v-init
     only-requires
-    mul-sets
-    array-write-sets
-    add-v
-    loop_less
-    loop_again
+    offset_bounds-sets-v
+    bounds-sets-v
+    overflow_add-v
+    loop-v-smaller
+    loop-v-preserved
     returns)

@@ -89,59 +89,59 @@ module _ (c : tie.After-shared_slice_known-in-loop-k-1 invariant_loop decreases_
   at_other : (n.op ≡ 2 → ⊥) → ClassesBefore t N (k + 1) sets
   at_other = classes_kept table k within sets before
 
-loop_holds : tie.Need-loop-k-init invariant_loop decreases_loop
-loop_holds c =
+loop-k-init : tie.Need-loop-k-init invariant_loop decreases_loop
+loop-k-init c =
     let a = c.args in
     let few = c.requires.0.few_variables in (
       omega arith,
       (search rules, classes_none (table_in a.table.now a.shape.nodes) a.shape.variables few c.alone-sets.result c.alone-sets.ensures),
     )
 
-mul_at : tie.Need-overflow_mul-at invariant_loop decreases_loop
-mul_at c = omega arith
+overflow_mul-at : tie.Need-overflow_mul-at invariant_loop decreases_loop
+overflow_mul-at c = omega arith
 
-shared-slice-read-if2 : tie.Need-bounds-table-at invariant_loop decreases_loop
-shared-slice-read-if2 c = omega arith
+bounds-table-at : tie.Need-bounds-table-at invariant_loop decreases_loop
+bounds-table-at c = omega arith
 
-add-two-at : tie.Need-overflow_add-at invariant_loop decreases_loop
-add-two-at c = omega arith
+overflow_add-at : tie.Need-overflow_add-at invariant_loop decreases_loop
+overflow_add-at c = omega arith
 
-two-at-requires : tie.Need-two_at-left-requires invariant_loop decreases_loop
-two-at-requires c κs = omega arith
+two_at-left-requires : tie.Need-two_at-left-requires invariant_loop decreases_loop
+two_at-left-requires c κs = omega arith
 
-add-two-at-2 : tie.Need-overflow_add-at-then-table-at-eq2 invariant_loop decreases_loop
-add-two-at-2 c = omega arith
+overflow_add-at-then-table-at-eq2 : tie.Need-overflow_add-at-then-table-at-eq2 invariant_loop decreases_loop
+overflow_add-at-then-table-at-eq2 c = omega arith
 
-two-at-requires-2 : tie.Need-two_at-right-requires invariant_loop decreases_loop
-two-at-requires-2 c κs = omega arith
+two_at-right-requires : tie.Need-two_at-right-requires invariant_loop decreases_loop
+two_at-right-requires c κs = omega arith
 
-slice-aggregate-merge : tie.Need-slice_bounds-merge-end invariant_loop decreases_loop
-slice-aggregate-merge c = search (rules, c.loop-k.invariant.1.0)
+slice_bounds-merge-end : tie.Need-slice_bounds-merge-end invariant_loop decreases_loop
+slice_bounds-merge-end c = search (rules, c.loop-k.invariant.1.0)
 
-mul-merge : tie.Need-offset_bounds-leaves-left invariant_loop decreases_loop
-mul-merge c = omega arith
+offset_bounds-leaves-left : tie.Need-offset_bounds-leaves-left invariant_loop decreases_loop
+offset_bounds-leaves-left c = omega arith
 
-shared-slice-read-merge : tie.Need-bounds-leaves-left invariant_loop decreases_loop
-shared-slice-read-merge c = omega (arith, earlier c.before.before.before.before.before c.if-table-at-eq2.true)
+bounds-leaves-left : tie.Need-bounds-leaves-left invariant_loop decreases_loop
+bounds-leaves-left c = omega (arith, earlier c.before.before.before.before.before c.if-table-at-eq2.true)
 
-mul-merge-2 : tie.Need-offset_bounds-leaves-right invariant_loop decreases_loop
-mul-merge-2 c = omega arith
+offset_bounds-leaves-right : tie.Need-offset_bounds-leaves-right invariant_loop decreases_loop
+offset_bounds-leaves-right c = omega arith
 
-shared-slice-read-merge-2 : tie.Need-bounds-leaves-right invariant_loop decreases_loop
-shared-slice-read-merge-2 c =
+bounds-leaves-right : tie.Need-bounds-leaves-right invariant_loop decreases_loop
+bounds-leaves-right c =
     omega (arith, earlier c.before.before.before.before.before.before c.if-table-at-eq2.true)
 
 merge-requires : tie.Need-merge-requires invariant_loop decreases_loop
 merge-requires c κs = c.loop-k.invariant.1.0
 
-add-k : tie.Need-overflow_add-k invariant_loop decreases_loop
-add-k c = omega arith
+overflow_add-k : tie.Need-overflow_add-k invariant_loop decreases_loop
+overflow_add-k c = omega arith
 
-loop_less : tie.Need-loop-k-smaller invariant_loop decreases_loop
-loop_less c = omega arith
+loop-k-smaller : tie.Need-loop-k-smaller invariant_loop decreases_loop
+loop-k-smaller c = omega arith
 
-loop_again : tie.Need-loop-k-preserved invariant_loop decreases_loop
-loop_again c = (
+loop-k-preserved : tie.Need-loop-k-preserved invariant_loop decreases_loop
+loop-k-preserved c = (
   omega arith,
   elim c.if-table-at-eq2.branch [
     | then-table-at-eq2 w ↦ subst (Next c.before) (sym w.sets-is) (
@@ -171,20 +171,20 @@ classes_spec =
     invariant_loop
     decreases_loop
     (λ c κs. search rules)
-    loop_holds
-    mul_at
-    shared-slice-read-if2
-    add-two-at
-    two-at-requires
-    add-two-at-2
-    two-at-requires-2
-    slice-aggregate-merge
-    mul-merge
-    shared-slice-read-merge
-    mul-merge-2
-    shared-slice-read-merge-2
+    loop-k-init
+    overflow_mul-at
+    bounds-table-at
+    overflow_add-at
+    two_at-left-requires
+    overflow_add-at-then-table-at-eq2
+    two_at-right-requires
+    slice_bounds-merge-end
+    offset_bounds-leaves-left
+    bounds-leaves-left
+    offset_bounds-leaves-right
+    bounds-leaves-right
     merge-requires
-    add-k
-    loop_less
-    loop_again
+    overflow_add-k
+    loop-k-smaller
+    loop-k-preserved
     returns)

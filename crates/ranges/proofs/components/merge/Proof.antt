@@ -23,8 +23,8 @@ invariant_loop sets₀ these all v₀ sets v = (v ≤ 24) × Filled (After sets�
 abbrev decreases_loop : tie.decreases-loop-v
 decreases_loop sets₀ these all v₀ sets v = 24 - v
 
-loop_holds : tie.Need-loop-v-init invariant_loop decreases_loop
-loop_holds c =
+loop-v-init : tie.Need-loop-v-init invariant_loop decreases_loop
+loop-v-init c =
     let s = c.before.before in
     let sets = s.args.sets.now in
     (omega arith, filled_none (After sets c.union-all.result) (λ u. get_or sets u 0) 24 sets s.requires (λ u. refl))
@@ -32,20 +32,20 @@ loop_holds c =
 has-requires : tie.Need-has-requires invariant_loop decreases_loop
 has-requires c κs = omega arith
 
-mul-sets : tie.Need-offset_bounds-sets-v invariant_loop decreases_loop
-mul-sets c = omega arith
+offset_bounds-sets-v : tie.Need-offset_bounds-sets-v invariant_loop decreases_loop
+offset_bounds-sets-v c = omega arith
 
-slice-write-sets : tie.Need-bounds-sets-v invariant_loop decreases_loop
-slice-write-sets c = let long = c.loop-v.invariant.1.long in omega arith
+bounds-sets-v : tie.Need-bounds-sets-v invariant_loop decreases_loop
+bounds-sets-v c = let long = c.loop-v.invariant.1.long in omega arith
 
-add-v : tie.Need-overflow_add-v invariant_loop decreases_loop
-add-v c = omega arith
+overflow_add-v : tie.Need-overflow_add-v invariant_loop decreases_loop
+overflow_add-v c = omega arith
 
-loop_less : tie.Need-loop-v-smaller invariant_loop decreases_loop
-loop_less c = omega arith
+loop-v-smaller : tie.Need-loop-v-smaller invariant_loop decreases_loop
+loop-v-smaller c = omega arith
 
-loop_again : tie.Need-loop-v-preserved invariant_loop decreases_loop
-loop_again c =
+loop-v-preserved : tie.Need-loop-v-preserved invariant_loop decreases_loop
+loop-v-preserved c =
     let l = c.loop-v in
     let sets = c.args.sets.now in
     let all = c.union-all.result in
@@ -62,8 +62,8 @@ loop_again c =
       ],
     )
 
-same_length : tie.Need-shape_of-sets invariant_loop decreases_loop
-same_length c = c.loop-v.invariant.1.long ∙ sym c.requires
+shape_of-sets : tie.Need-shape_of-sets invariant_loop decreases_loop
+shape_of-sets c = c.loop-v.invariant.1.long ∙ sym c.requires
 
 returns : tie.Need-returns invariant_loop decreases_loop
 returns c =
@@ -80,12 +80,12 @@ merge_spec =
     invariant_loop
     decreases_loop
     (λ c κs. search rules)
-    loop_holds
+    loop-v-init
     has-requires
-    mul-sets
-    slice-write-sets
-    add-v
-    loop_less
-    loop_again
-    same_length
+    offset_bounds-sets-v
+    bounds-sets-v
+    overflow_add-v
+    loop-v-smaller
+    loop-v-preserved
+    shape_of-sets
     returns)

@@ -15,26 +15,26 @@ invariant_loop sets these all₀ v₀ all v = (v ≤ 24) × UnionIs sets these v
 abbrev decreases_loop : tie.decreases-loop-v
 decreases_loop sets these all₀ v₀ all v = 24 - v
 
-loop_holds : tie.Need-loop-v-init invariant_loop decreases_loop
-loop_holds c = (omega arith, union_none c.args.sets.now c.args.these)
+loop-v-init : tie.Need-loop-v-init invariant_loop decreases_loop
+loop-v-init c = (omega arith, union_none c.args.sets.now c.args.these)
 
 has-requires : tie.Need-has-requires invariant_loop decreases_loop
 has-requires c κs = omega arith
 
-mul-all : tie.Need-offset_bounds-sets-v invariant_loop decreases_loop
-mul-all c = omega arith
+offset_bounds-sets-v : tie.Need-offset_bounds-sets-v invariant_loop decreases_loop
+offset_bounds-sets-v c = omega arith
 
-shared-slice-read-all : tie.Need-bounds-sets-v invariant_loop decreases_loop
-shared-slice-read-all c = omega arith
+bounds-sets-v : tie.Need-bounds-sets-v invariant_loop decreases_loop
+bounds-sets-v c = omega arith
 
-add-v : tie.Need-overflow_add-v invariant_loop decreases_loop
-add-v c = omega arith
+overflow_add-v : tie.Need-overflow_add-v invariant_loop decreases_loop
+overflow_add-v c = omega arith
 
-loop_less : tie.Need-loop-v-smaller invariant_loop decreases_loop
-loop_less c = omega arith
+loop-v-smaller : tie.Need-loop-v-smaller invariant_loop decreases_loop
+loop-v-smaller c = omega arith
 
-loop_again : tie.Need-loop-v-preserved invariant_loop decreases_loop
-loop_again c =
+loop-v-preserved : tie.Need-loop-v-preserved invariant_loop decreases_loop
+loop-v-preserved c =
     let a = c.args in
     let l = c.loop-v in
     let e = sym c.has.ensures in (
@@ -59,11 +59,11 @@ union_spec =
     (tie.spec
     invariant_loop
     decreases_loop
-    loop_holds
+    loop-v-init
     has-requires
-    mul-all
-    shared-slice-read-all
-    add-v
-    loop_less
-    loop_again
+    offset_bounds-sets-v
+    bounds-sets-v
+    overflow_add-v
+    loop-v-smaller
+    loop-v-preserved
     returns)

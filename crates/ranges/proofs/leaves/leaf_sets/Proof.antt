@@ -81,8 +81,8 @@ module _ (c : tie.After-shared_slice_known-in-loop-k-1 invariant_loop decreases_
   at_other : (n.op ≡ 0 → ⊥) → (n.op ≡ 1 → ⊥) → Fills (set sets k 0)
   at_other p q = fills 0 (other_set table k within p q)
 
-loop_holds : tie.Need-loop-k-init invariant_loop decreases_loop
-loop_holds c =
+loop-k-init : tie.Need-loop-k-init invariant_loop decreases_loop
+loop-k-init c =
     let s = c.before.before in
     let a = s.args in
     let lent = a.sets.now in (
@@ -90,17 +90,17 @@ loop_holds c =
       filled_none (LeafSet (table_in a.table.now a.shape.nodes)) (λ i. get_or lent i 0) (length lent) lent refl (λ i. refl),
     )
 
-mul_at : tie.Need-overflow_mul-at invariant_loop decreases_loop
-mul_at c = omega arith
+overflow_mul-at : tie.Need-overflow_mul-at invariant_loop decreases_loop
+overflow_mul-at c = omega arith
 
-shared-slice-read-op : tie.Need-bounds-table-at invariant_loop decreases_loop
-shared-slice-read-op c = omega arith
+bounds-table-at : tie.Need-bounds-table-at invariant_loop decreases_loop
+bounds-table-at c = omega arith
 
-add_wide : tie.Need-overflow_add-at invariant_loop decreases_loop
-add_wide c = omega arith
+overflow_add-at : tie.Need-overflow_add-at invariant_loop decreases_loop
+overflow_add-at c = omega arith
 
-shared-slice-read-wide : tie.Need-bounds-table-at-then-op-eq0 invariant_loop decreases_loop
-shared-slice-read-wide c = omega arith
+bounds-table-at-then-op-eq0 : tie.Need-bounds-table-at-then-op-eq0 invariant_loop decreases_loop
+bounds-table-at-then-op-eq0 c = omega arith
 
 wide-requires : tie.Need-wide-requires invariant_loop decreases_loop
 wide-requires c κs = omega arith
@@ -108,58 +108,58 @@ wide-requires c κs = omega arith
 only-requires : tie.Need-only-requires invariant_loop decreases_loop
 only-requires c κs = omega (arith, low c.before.before.before c.if-op-eq0.true)
 
-mul-sets : tie.Need-offset_bounds-sets-k invariant_loop decreases_loop
-mul-sets c = omega arith
+offset_bounds-sets-k : tie.Need-offset_bounds-sets-k invariant_loop decreases_loop
+offset_bounds-sets-k c = omega arith
 
-slice-write-sets : tie.Need-bounds-sets-k invariant_loop decreases_loop
-slice-write-sets c = omega arith
+bounds-sets-k : tie.Need-bounds-sets-k invariant_loop decreases_loop
+bounds-sets-k c = omega arith
 
-add-two-at : tie.Need-overflow_add-at-then-op-eq1 invariant_loop decreases_loop
-add-two-at c = omega arith
+overflow_add-at-then-op-eq1 : tie.Need-overflow_add-at-then-op-eq1 invariant_loop decreases_loop
+overflow_add-at-then-op-eq1 c = omega arith
 
-two-at-requires : tie.Need-two_at-left-requires invariant_loop decreases_loop
-two-at-requires c κs = omega arith
+two_at-left-requires : tie.Need-two_at-left-requires invariant_loop decreases_loop
+two_at-left-requires c κs = omega arith
 
-add-two-at-2 : tie.Need-overflow_add-at-then-op-eq1-2 invariant_loop decreases_loop
-add-two-at-2 c = omega arith
+overflow_add-at-then-op-eq1-2 : tie.Need-overflow_add-at-then-op-eq1-2 invariant_loop decreases_loop
+overflow_add-at-then-op-eq1-2 c = omega arith
 
-two-at-requires-2 : tie.Need-two_at-right-requires invariant_loop decreases_loop
-two-at-requires-2 c κs = omega arith
+two_at-right-requires : tie.Need-two_at-right-requires invariant_loop decreases_loop
+two_at-right-requires c κs = omega arith
 
-mul-sets-2 : tie.Need-offset_bounds-sets-left invariant_loop decreases_loop
-mul-sets-2 c = omega arith
+offset_bounds-sets-left : tie.Need-offset_bounds-sets-left invariant_loop decreases_loop
+offset_bounds-sets-left c = omega arith
 
-slice-read-sets : tie.Need-bounds-sets-left invariant_loop decreases_loop
-slice-read-sets c =
+bounds-sets-left : tie.Need-bounds-sets-left invariant_loop decreases_loop
+bounds-sets-left c =
     omega (arith, earlier c.before.before.before.before.before c.if-op-eq1.true)
 
-mul-sets-3 : tie.Need-offset_bounds-sets-right invariant_loop decreases_loop
-mul-sets-3 c = omega arith
+offset_bounds-sets-right : tie.Need-offset_bounds-sets-right invariant_loop decreases_loop
+offset_bounds-sets-right c = omega arith
 
-slice-read-sets-2 : tie.Need-bounds-sets-right invariant_loop decreases_loop
-slice-read-sets-2 c =
+bounds-sets-right : tie.Need-bounds-sets-right invariant_loop decreases_loop
+bounds-sets-right c =
     omega (arith, earlier c.before.before.before.before.before.before c.if-op-eq1.true)
 
-mul-sets-4 : tie.Need-offset_bounds-sets-k-then-op-eq1 invariant_loop decreases_loop
-mul-sets-4 c = omega arith
+offset_bounds-sets-k-then-op-eq1 : tie.Need-offset_bounds-sets-k-then-op-eq1 invariant_loop decreases_loop
+offset_bounds-sets-k-then-op-eq1 c = omega arith
 
-slice-write-sets-2 : tie.Need-bounds-sets-k-then-op-eq1 invariant_loop decreases_loop
-slice-write-sets-2 c = omega arith
+bounds-sets-k-then-op-eq1 : tie.Need-bounds-sets-k-then-op-eq1 invariant_loop decreases_loop
+bounds-sets-k-then-op-eq1 c = omega arith
 
-mul-sets-5 : tie.Need-offset_bounds-sets-k-else-op-eq1 invariant_loop decreases_loop
-mul-sets-5 c = omega arith
+offset_bounds-sets-k-else-op-eq1 : tie.Need-offset_bounds-sets-k-else-op-eq1 invariant_loop decreases_loop
+offset_bounds-sets-k-else-op-eq1 c = omega arith
 
-slice-write-sets-3 : tie.Need-bounds-sets-k-else-op-eq1 invariant_loop decreases_loop
-slice-write-sets-3 c = omega arith
+bounds-sets-k-else-op-eq1 : tie.Need-bounds-sets-k-else-op-eq1 invariant_loop decreases_loop
+bounds-sets-k-else-op-eq1 c = omega arith
 
-add-k : tie.Need-overflow_add-k invariant_loop decreases_loop
-add-k c = omega arith
+overflow_add-k : tie.Need-overflow_add-k invariant_loop decreases_loop
+overflow_add-k c = omega arith
 
-loop_less : tie.Need-loop-k-smaller invariant_loop decreases_loop
-loop_less c = omega arith
+loop-k-smaller : tie.Need-loop-k-smaller invariant_loop decreases_loop
+loop-k-smaller c = omega arith
 
-loop_again : tie.Need-loop-k-preserved invariant_loop decreases_loop
-loop_again c = (
+loop-k-preserved : tie.Need-loop-k-preserved invariant_loop decreases_loop
+loop-k-preserved c = (
   omega arith,
   elim c.if-op-eq0.branch [
     | then-op-eq0 w ↦ subst (Fills c.before) (sym w.sets-is)
@@ -170,8 +170,8 @@ loop_again c = (
   ],
 )
 
-same_length : tie.Need-shape_of-sets invariant_loop decreases_loop
-same_length c = c.loop-k.invariant.1.long
+shape_of-sets : tie.Need-shape_of-sets invariant_loop decreases_loop
+shape_of-sets c = c.loop-k.invariant.1.long
 
 returns : tie.Need-returns invariant_loop decreases_loop
 returns c = λ i v h. c.loop-k.invariant.1.done i (omega arith) v
@@ -182,29 +182,29 @@ leaf_sets_spec =
     (tie.spec
     invariant_loop
     decreases_loop
-    loop_holds
-    mul_at
-    shared-slice-read-op
-    add_wide
-    shared-slice-read-wide
+    loop-k-init
+    overflow_mul-at
+    bounds-table-at
+    overflow_add-at
+    bounds-table-at-then-op-eq0
     wide-requires
     only-requires
-    mul-sets
-    slice-write-sets
-    add-two-at
-    two-at-requires
-    add-two-at-2
-    two-at-requires-2
-    mul-sets-2
-    slice-read-sets
-    mul-sets-3
-    slice-read-sets-2
-    mul-sets-4
-    slice-write-sets-2
-    mul-sets-5
-    slice-write-sets-3
-    add-k
-    loop_less
-    loop_again
-    same_length
+    offset_bounds-sets-k
+    bounds-sets-k
+    overflow_add-at-then-op-eq1
+    two_at-left-requires
+    overflow_add-at-then-op-eq1-2
+    two_at-right-requires
+    offset_bounds-sets-left
+    bounds-sets-left
+    offset_bounds-sets-right
+    bounds-sets-right
+    offset_bounds-sets-k-then-op-eq1
+    bounds-sets-k-then-op-eq1
+    offset_bounds-sets-k-else-op-eq1
+    bounds-sets-k-else-op-eq1
+    overflow_add-k
+    loop-k-smaller
+    loop-k-preserved
+    shape_of-sets
     returns)

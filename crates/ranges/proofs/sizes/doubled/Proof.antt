@@ -26,14 +26,14 @@ invariant_loop product truths all₀ k₀ all k =
 abbrev decreases_loop : tie.decreases-loop-k
 decreases_loop product truths all₀ k₀ all k = truths - k
 
-loop_holds : tie.Need-loop-k-init invariant_loop decreases_loop
-loop_holds c = (omega arith, record { most = c.requires; left = refl })
+loop-k-init : tie.Need-loop-k-init invariant_loop decreases_loop
+loop-k-init c = (omega arith, record { most = c.requires; left = refl })
 
 times-requires : tie.Need-times-requires invariant_loop decreases_loop
 times-requires c κs = omega arith
 
-returns : tie.Need-returns-in-Big invariant_loop decreases_loop
-returns c =
+returns-in-Big : tie.Need-returns-in-Big invariant_loop decreases_loop
+returns-in-Big c =
     let l = c.loop-k in
     let truths = c.args.truths in
     let h : l.k < truths = omega arith in
@@ -41,14 +41,14 @@ returns c =
     (get_or-replicate truths l.k 2 0 h) (positive_twos truths)
     (subst (ProductIs (l.all * 2)) c.in-Big.is c.times.ensures)
 
-add-k : tie.Need-overflow_add-k invariant_loop decreases_loop
-add-k c = omega arith
+overflow_add-k : tie.Need-overflow_add-k invariant_loop decreases_loop
+overflow_add-k c = omega arith
 
-loop_less : tie.Need-loop-k-smaller invariant_loop decreases_loop
-loop_less c = omega arith
+loop-k-smaller : tie.Need-loop-k-smaller invariant_loop decreases_loop
+loop-k-smaller c = omega arith
 
-loop_again : tie.Need-loop-k-preserved invariant_loop decreases_loop
-loop_again c =
+loop-k-preserved : tie.Need-loop-k-preserved invariant_loop decreases_loop
+loop-k-preserved c =
     let l = c.loop-k in
     let truths = c.args.truths in
     let h : l.k < truths = omega arith in (
@@ -58,8 +58,8 @@ loop_again c =
           (subst (ProductIs (l.all * 2)) c.in-Of.is c.times.ensures),
     )
 
-returns_2 : tie.Need-returns invariant_loop decreases_loop
-returns_2 c =
+returns : tie.Need-returns invariant_loop decreases_loop
+returns c =
     let l = c.loop-k in
     let truths = c.args.truths in
     multiplied_all (twos truths) _ l.k l.all l.invariant.1 (omega (arith, length_twos truths))
@@ -70,12 +70,12 @@ doubled_spec =
     (tie.spec
     invariant_loop
     decreases_loop
-    loop_holds
+    loop-k-init
     times-requires
     (λ c. search rules)
-    returns
+    returns-in-Big
     (λ c. search rules)
-    add-k
-    loop_less
-    loop_again
-    returns_2)
+    overflow_add-k
+    loop-k-smaller
+    loop-k-preserved
+    returns)

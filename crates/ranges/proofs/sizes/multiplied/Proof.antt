@@ -36,11 +36,11 @@ these c = sizes (take c.args.variables c.args.tops) c.args.truths
 enough : (c : tie.Start invariant_loop decreases_loop) → c.args.variables ≤ length c.args.tops
 enough c = omega arith
 
-loop_holds : tie.Need-loop-v-init invariant_loop decreases_loop
-loop_holds c = (omega arith, record { most = omega arith; left = one-mul (product_of (these c)) })
+loop-v-init : tie.Need-loop-v-init invariant_loop decreases_loop
+loop-v-init c = (omega arith, record { most = omega arith; left = one-mul (product_of (these c)) })
 
-array-read-wide : tie.Need-bounds-tops-v invariant_loop decreases_loop
-array-read-wide c = omega arith
+bounds-tops-v : tie.Need-bounds-tops-v invariant_loop decreases_loop
+bounds-tops-v c = omega arith
 
 times-requires : tie.Need-times-requires invariant_loop decreases_loop
 times-requires c κs =
@@ -63,8 +63,8 @@ module _ (c : tie.After-wide invariant_loop decreases_loop) where
       sizes_at start.args.tops start.args.variables start.args.truths (enough start) v (omega arith)
       ∙ sym c.wide.ensures
 
-returns : tie.Need-returns-in-Big invariant_loop decreases_loop
-returns c =
+returns-in-Big : tie.Need-returns-in-Big invariant_loop decreases_loop
+returns-in-Big c =
     let w = c.before.before in
     let s = w.before.before.before in
     let l = w.loop-v in
@@ -72,14 +72,14 @@ returns c =
     (sizes_positive s.args.tops s.args.variables s.args.truths (enough s) s.requires.2)
     (subst (ProductIs (l.all * w.wide.result)) c.in-Big.is c.times.ensures)
 
-add-v : tie.Need-overflow_add-v invariant_loop decreases_loop
-add-v c = omega arith
+overflow_add-v : tie.Need-overflow_add-v invariant_loop decreases_loop
+overflow_add-v c = omega arith
 
-loop_less : tie.Need-loop-v-smaller invariant_loop decreases_loop
-loop_less c = omega arith
+loop-v-smaller : tie.Need-loop-v-smaller invariant_loop decreases_loop
+loop-v-smaller c = omega arith
 
-loop_again : tie.Need-loop-v-preserved invariant_loop decreases_loop
-loop_again c =
+loop-v-preserved : tie.Need-loop-v-preserved invariant_loop decreases_loop
+loop-v-preserved c =
     let w = c.before.before in
     let l = w.loop-v in (
       omega arith,
@@ -91,8 +91,8 @@ loop_again c =
 doubled-requires : tie.Need-doubled-requires invariant_loop decreases_loop
 doubled-requires c κs = c.loop-v.invariant.1.most
 
-returns_2 : tie.Need-returns invariant_loop decreases_loop
-returns_2 c =
+returns : tie.Need-returns invariant_loop decreases_loop
+returns c =
     let s = c.before.before.before in
     let l = c.loop-v in
     let e : l.v ≡ s.args.variables = omega arith in
@@ -108,15 +108,15 @@ multiplied_spec =
     (tie.spec
     invariant_loop
     decreases_loop
-    loop_holds
-    array-read-wide
+    loop-v-init
+    bounds-tops-v
     (λ c κs. search rules)
     times-requires
     (λ c. search rules)
-    returns
+    returns-in-Big
     (λ c. search rules)
-    add-v
-    loop_less
-    loop_again
+    overflow_add-v
+    loop-v-smaller
+    loop-v-preserved
     doubled-requires
-    returns_2)
+    returns)

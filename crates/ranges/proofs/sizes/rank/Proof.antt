@@ -17,25 +17,25 @@ invariant_loop component v rank₀ u₀ rank u = (u ≤ v) × (rank ≡ suc (how
 abbrev decreases_loop : tie.decreases-loop-u
 decreases_loop component v rank₀ u₀ rank u = v - u
 
-loop_holds : tie.Need-loop-u-init invariant_loop decreases_loop
-loop_holds c = (omega arith, refl)
+loop-u-init : tie.Need-loop-u-init invariant_loop decreases_loop
+loop-u-init c = (omega arith, refl)
 
 has-requires : tie.Need-has-requires invariant_loop decreases_loop
 has-requires c κs = omega arith
 
-add-rank : tie.Need-overflow_add-rank invariant_loop decreases_loop
-add-rank c =
+overflow_add-rank : tie.Need-overflow_add-rank invariant_loop decreases_loop
+overflow_add-rank c =
     let f = in_set c.args.component in
     omega (arith, how_many_le f c.loop-u.u)
 
-add-u : tie.Need-overflow_add-u invariant_loop decreases_loop
-add-u c = omega arith
+overflow_add-u : tie.Need-overflow_add-u invariant_loop decreases_loop
+overflow_add-u c = omega arith
 
-loop_less : tie.Need-loop-u-smaller invariant_loop decreases_loop
-loop_less c = omega arith
+loop-u-smaller : tie.Need-loop-u-smaller invariant_loop decreases_loop
+loop-u-smaller c = omega arith
 
-loop_again : tie.Need-loop-u-preserved invariant_loop decreases_loop
-loop_again c =
+loop-u-preserved : tie.Need-loop-u-preserved invariant_loop decreases_loop
+loop-u-preserved c =
     let f = in_set c.args.component in
     let u = c.loop-u.u in
     let e = sym c.has.ensures in (
@@ -57,10 +57,10 @@ rank_spec =
     (tie.spec
     invariant_loop
     decreases_loop
-    loop_holds
+    loop-u-init
     has-requires
-    add-rank
-    add-u
-    loop_less
-    loop_again
+    overflow_add-rank
+    overflow_add-u
+    loop-u-smaller
+    loop-u-preserved
     returns)

@@ -11,20 +11,20 @@ use Rattle.ranges.proofs.sizes.times.Tie as tie
 small : (c : tie.Else-size-product) → c.args.product * c.args.size ≤ 1000000000000000000
 small c = (le-div_iff_mul-le c.requires).0 c.if-size-product.false
 
-mul-t6 : tie.Need-overflow_mul-result
-mul-t6 c = omega (arith, small c)
+overflow_mul-result : tie.Need-overflow_mul-result
+overflow_mul-result c = omega (arith, small c)
 
-returns : tie.Need-returns-then-size-product
-returns c = (div-lt_iff_lt-mul c.requires).0 c.if-size-product.true
+returns-then-size-product : tie.Need-returns-then-size-product
+returns-then-size-product c = (div-lt_iff_lt-mul c.requires).0 c.if-size-product.true
 
-returns_2 : tie.Need-returns-else-size-product
-returns_2 c = (refl, small c)
+returns-else-size-product : tie.Need-returns-else-size-product
+returns-else-size-product c = (refl, small c)
 
 pub times_spec : {M : Type 1} → statement M
 times_spec =
     tie.close
     (tie.spec
     (λ c. search rules)
-    mul-t6
-    returns
-    returns_2)
+    overflow_mul-result
+    returns-then-size-product
+    returns-else-size-product)

@@ -18,29 +18,29 @@ invariant_loop variables components tops₀ v₀ tops v = (v ≤ variables) × (
 abbrev decreases_loop : tie.decreases-loop-v
 decreases_loop variables components tops₀ v₀ tops v = variables - v
 
-loop_holds : tie.Need-loop-v-init invariant_loop decreases_loop
-loop_holds c = (omega arith, refl)
+loop-v-init : tie.Need-loop-v-init invariant_loop decreases_loop
+loop-v-init c = (omega arith, refl)
 
-mul-rank : tie.Need-offset_bounds-components-v invariant_loop decreases_loop
-mul-rank c = omega arith
+offset_bounds-components-v : tie.Need-offset_bounds-components-v invariant_loop decreases_loop
+offset_bounds-components-v c = omega arith
 
-array-read-rank : tie.Need-bounds-components-v invariant_loop decreases_loop
-array-read-rank c = omega arith
+bounds-components-v : tie.Need-bounds-components-v invariant_loop decreases_loop
+bounds-components-v c = omega arith
 
 rank-requires : tie.Need-rank-requires invariant_loop decreases_loop
 rank-requires c κs = omega arith
 
-array-write-tops : tie.Need-bounds-tops-v invariant_loop decreases_loop
-array-write-tops c = omega arith
+bounds-tops-v : tie.Need-bounds-tops-v invariant_loop decreases_loop
+bounds-tops-v c = omega arith
 
-add-v : tie.Need-overflow_add-v invariant_loop decreases_loop
-add-v c = omega arith
+overflow_add-v : tie.Need-overflow_add-v invariant_loop decreases_loop
+overflow_add-v c = omega arith
 
-loop_less : tie.Need-loop-v-smaller invariant_loop decreases_loop
-loop_less c = omega arith
+loop-v-smaller : tie.Need-loop-v-smaller invariant_loop decreases_loop
+loop-v-smaller c = omega arith
 
-loop_again : tie.Need-loop-v-preserved invariant_loop decreases_loop
-loop_again c =
+loop-v-preserved : tie.Need-loop-v-preserved invariant_loop decreases_loop
+loop-v-preserved c =
     let l = c.loop-v in
     let f = rank_in c.args.components in (
       omega arith,
@@ -58,12 +58,12 @@ tops_spec =
     (tie.spec
     invariant_loop
     decreases_loop
-    loop_holds
-    mul-rank
-    array-read-rank
+    loop-v-init
+    offset_bounds-components-v
+    bounds-components-v
     rank-requires
-    array-write-tops
-    add-v
-    loop_less
-    loop_again
+    bounds-tops-v
+    overflow_add-v
+    loop-v-smaller
+    loop-v-preserved
     returns)

@@ -7,8 +7,8 @@ use borrow.Author.Rules.{rules}
 use Rattle.solve_lines.proofs.errors.error_line.Statement.{statement}
 use Rattle.solve_lines.proofs.errors.error_line.Tie as tie
 
-put-requires-4 : tie.Need-put-requires
-put-requires-4 c κs =
+put-requires : tie.Need-put-requires
+put-requires c κs =
     let fits = c.requires in
     omega (arith, c.put-at-3.auto.text, c.put_place-at.auto.line, c.put_meaning-at.auto.line, c.put-at-2.auto.text, c.put_number-at.auto.text, c.put-at.auto.text, c.put-at-3.ensures.ends, c.put_place-at.ensures.1, c.put_meaning-at.ensures.1, c.put-at-2.ensures.ends, c.put_number-at.ensures.1, c.put-at.ensures.ends)
 
@@ -33,6 +33,6 @@ error_line_spec =
     (λ c κs. search rules)
     (λ c κs. search rules)
     (λ c κs. search rules)
-    put-requires-4
+    put-requires
     (λ c. search rules)
     returns)

@@ -26,35 +26,35 @@ onward c =
       c.next-token.ensures.inside,
     )
 
-loop_holds : tie.Need-loop-at-init invariant_loop decreases_loop
-loop_holds c = passed_none _ _
+loop-at-init : tie.Need-loop-at-init invariant_loop decreases_loop
+loop-at-init c = passed_none _ _
 
-next_requires : tie.Need-next-token-requires invariant_loop decreases_loop
-next_requires c κs = c.loop-at.invariant.inside
+next-token-requires : tie.Need-next-token-requires invariant_loop decreases_loop
+next-token-requires c κs = c.loop-at.invariant.inside
 
-returns : tie.Need-returns-in-End invariant_loop decreases_loop
-returns c = passed_end _ _ _ _ c.loop-at.invariant c.next-token.result c.next-token.ensures c.in-End.is
+returns-in-End : tie.Need-returns-in-End invariant_loop decreases_loop
+returns-in-End c = passed_end _ _ _ _ c.loop-at.invariant c.next-token.result c.next-token.ensures c.in-End.is
 
-is-declaring-requires : tie.Need-is_declaring-requires invariant_loop decreases_loop
-is-declaring-requires c κs = name_inside c.args.text.now c.loop-at.at c.next-token.result c.next-token.ensures
+is_declaring-requires : tie.Need-is_declaring-requires invariant_loop decreases_loop
+is_declaring-requires c κs = name_inside c.args.text.now c.loop-at.at c.next-token.result c.next-token.ensures
 
-loop_less : tie.Need-loop-at-smaller-then-not-is_declaring invariant_loop decreases_loop
-loop_less c = omega (arith, onward c.before.before)
+loop-at-smaller-then-not-is_declaring : tie.Need-loop-at-smaller-then-not-is_declaring invariant_loop decreases_loop
+loop-at-smaller-then-not-is_declaring c = omega (arith, onward c.before.before)
 
-loop_again : tie.Need-loop-at-preserved-then-not-is_declaring invariant_loop decreases_loop
-loop_again c = passed_other _ _ _ _ c.loop-at.invariant c.next-token.result c.next-token.ensures c.in_default.in_default-own.keys2 (sym c.is_declaring.ensures ∙ c.if-not-is_declaring.true)
+loop-at-preserved-then-not-is_declaring : tie.Need-loop-at-preserved-then-not-is_declaring invariant_loop decreases_loop
+loop-at-preserved-then-not-is_declaring c = passed_other _ _ _ _ c.loop-at.invariant c.next-token.result c.next-token.ensures c.in_default.in_default-own.keys2 (sym c.is_declaring.ensures ∙ c.if-not-is_declaring.true)
 
-returns_2 : tie.Need-returns-then-number-k invariant_loop decreases_loop
-returns_2 c = (passed_here _ _ _ _ c.loop-at.invariant c.next-token.result c.next-token.ensures c.in_default.in_default-own.keys2 (sym c.is_declaring.ensures ∙ c.if-not-is_declaring.false) c.if-number-k.true, c.next-token.ensures.inside)
+returns-then-number-k : tie.Need-returns-then-number-k invariant_loop decreases_loop
+returns-then-number-k c = (passed_here _ _ _ _ c.loop-at.invariant c.next-token.result c.next-token.ensures c.in_default.in_default-own.keys2 (sym c.is_declaring.ensures ∙ c.if-not-is_declaring.false) c.if-number-k.true, c.next-token.ensures.inside)
 
-add-number : tie.Need-overflow_add-number invariant_loop decreases_loop
-add-number c = let few = c.loop-at.invariant.few in omega arith
+overflow_add-number : tie.Need-overflow_add-number invariant_loop decreases_loop
+overflow_add-number c = let few = c.loop-at.invariant.few in omega arith
 
-loop-less-2 : tie.Need-loop-at-smaller invariant_loop decreases_loop
-loop-less-2 c = omega (arith, onward c.before.before.before)
+loop-at-smaller : tie.Need-loop-at-smaller invariant_loop decreases_loop
+loop-at-smaller c = omega (arith, onward c.before.before.before)
 
-loop-again-2 : tie.Need-loop-at-preserved invariant_loop decreases_loop
-loop-again-2 c = passed_one _ _ _ _ c.loop-at.invariant c.next-token.result c.next-token.ensures c.in_default.in_default-own.keys2 (sym c.is_declaring.ensures ∙ c.if-not-is_declaring.false) c.if-number-k.false
+loop-at-preserved : tie.Need-loop-at-preserved invariant_loop decreases_loop
+loop-at-preserved c = passed_one _ _ _ _ c.loop-at.invariant c.next-token.result c.next-token.ensures c.in_default.in_default-own.keys2 (sym c.is_declaring.ensures ∙ c.if-not-is_declaring.false) c.if-number-k.false
 
 pub behind_declaring_spec : {M : Type 1} → statement M
 behind_declaring_spec =
@@ -62,14 +62,14 @@ behind_declaring_spec =
     (tie.spec
     invariant_loop
     decreases_loop
-    loop_holds
-    next_requires
+    loop-at-init
+    next-token-requires
     (λ c. search rules)
-    returns
-    is-declaring-requires
-    loop_less
-    loop_again
-    returns_2
-    add-number
-    loop-less-2
-    loop-again-2)
+    returns-in-End
+    is_declaring-requires
+    loop-at-smaller-then-not-is_declaring
+    loop-at-preserved-then-not-is_declaring
+    returns-then-number-k
+    overflow_add-number
+    loop-at-smaller
+    loop-at-preserved)

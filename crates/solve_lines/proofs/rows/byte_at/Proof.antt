@@ -5,8 +5,8 @@ use borrow.Author.Rules.{rules}
 use Rattle.solve_lines.proofs.rows.byte_at.Statement.{statement}
 use Rattle.solve_lines.proofs.rows.byte_at.Tie as tie
 
-returns_2 : tie.Need-returns-else-i-s
-returns_2 c = sym (get_or-eq_default c.args.s.now 0 c.if-i-s.false)
+returns-else-i-s : tie.Need-returns-else-i-s
+returns-else-i-s c = sym (get_or-eq_default c.args.s.now 0 c.if-i-s.false)
 
 pub byte_at_spec : {M : Type 1} → statement M
 byte_at_spec =
@@ -14,4 +14,4 @@ byte_at_spec =
     (tie.spec
     (λ c. search rules)
     (λ c. search rules)
-    returns_2)
+    returns-else-i-s)

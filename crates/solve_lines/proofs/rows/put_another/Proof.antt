@@ -8,15 +8,15 @@ use borrow.Author.Rules.{rules}
 use Rattle.solve_lines.proofs.rows.put_another.Statement.{statement}
 use Rattle.solve_lines.proofs.rows.put_another.Tie as tie
 
-returns : tie.Need-returns-then-more
-returns c =
+returns-then-more : tie.Need-returns-then-more
+returns-then-more c =
     let v = c.args.v in
     let comma = c.put-at.ensures in
     let number = c.put_number.ensures in
     (wrote_as (wrote_more comma number.0) (sym (ap (λ (b : Bool). another b v) c.if-more.true)), omega (arith, comma.ends))
 
-returns_2 : tie.Need-returns
-returns_2 c =
+returns : tie.Need-returns
+returns c =
     let v = c.args.v in
     (wrote_as c.put.ensures (sym (ap (λ (b : Bool). another b v) c.if-more.false)), omega (arith, c.put.ensures.ends))
 
@@ -27,7 +27,7 @@ put_another_spec =
     (λ c κs. search rules)
     (λ c κs. search rules)
     (λ c. search rules)
-    returns
+    returns-then-more
     (λ c κs. search rules)
     (λ c. search rules)
-    returns_2)
+    returns)

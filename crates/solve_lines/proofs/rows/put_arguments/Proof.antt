@@ -8,13 +8,13 @@ use borrow.Author.Rules.{rules}
 use Rattle.solve_lines.proofs.rows.put_arguments.Statement.{statement}
 use Rattle.solve_lines.proofs.rows.put_arguments.Tie as tie
 
-returns : tie.Need-returns-then-arity-eq0
-returns c =
+returns-then-arity-eq0 : tie.Need-returns-then-arity-eq0
+returns-then-arity-eq0 c =
     let s = c.args in
     (wrote_as c.put.ensures (sym (no_arguments s.arity (row_read s.row) c.if-arity-eq0.true)), omega (arith, c.put.ensures.ends))
 
-returns_2 : tie.Need-returns
-returns_2 c =
+returns : tie.Need-returns
+returns c =
     let s = c.args in
     let opens = c.put-at.ensures in
     let x = c.put_digits-at.ensures in
@@ -31,7 +31,7 @@ put_arguments_spec =
     (tie.spec
     (λ c κs. search rules)
     (λ c. search rules)
-    returns
+    returns-then-arity-eq0
     (λ c κs. search rules)
     (λ c. search rules)
     (λ c κs. search rules)
@@ -39,4 +39,4 @@ put_arguments_spec =
     (λ c κs. search rules)
     (λ c κs. search rules)
     (λ c. search rules)
-    returns_2)
+    returns)

@@ -7,11 +7,11 @@ use borrow.Author.Rules.{rules}
 use Rattle.solve_lines.proofs.rows.put_bar.Statement.{statement}
 use Rattle.solve_lines.proofs.rows.put_bar.Tie as tie
 
-returns : tie.Need-returns-then-barred
-returns c = (wrote_as c.put.ensures (sym (ap bar c.if-barred.true)), omega (arith, c.put.ensures.ends))
+returns-then-barred : tie.Need-returns-then-barred
+returns-then-barred c = (wrote_as c.put.ensures (sym (ap bar c.if-barred.true)), omega (arith, c.put.ensures.ends))
 
-returns_2 : tie.Need-returns
-returns_2 c = (wrote_as c.put-2.ensures (sym (ap bar c.if-barred.false)), omega (arith, c.put-2.ensures.ends))
+returns : tie.Need-returns
+returns c = (wrote_as c.put-2.ensures (sym (ap bar c.if-barred.false)), omega (arith, c.put-2.ensures.ends))
 
 pub put_bar_spec : {M : Type 1} → statement M
 put_bar_spec =
@@ -19,7 +19,7 @@ put_bar_spec =
     (tie.spec
     (λ c κs. search rules)
     (λ c. search rules)
-    returns
+    returns-then-barred
     (λ c κs. search rules)
     (λ c. search rules)
-    returns_2)
+    returns)

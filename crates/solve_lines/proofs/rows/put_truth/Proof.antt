@@ -8,12 +8,12 @@ use borrow.Author.Rules.{rules}
 use Rattle.solve_lines.proofs.rows.put_truth.Statement.{statement}
 use Rattle.solve_lines.proofs.rows.put_truth.Tie as tie
 
-returns : tie.Need-returns-then-v-eq1
-returns c =
+returns-then-v-eq1 : tie.Need-returns-then-v-eq1
+returns-then-v-eq1 c =
     (wrote_as c.put.ensures (sym (ap truth (eq-eqb c.args.v 1 c.if-v-eq1.true))), omega (arith, c.put.ensures.ends))
 
-returns_2 : tie.Need-returns
-returns_2 c =
+returns : tie.Need-returns
+returns c =
     (wrote_as c.put-2.ensures (sym (ap truth (ne_eqb c.args.v 1 c.if-v-eq1.false))), omega (arith, c.put-2.ensures.ends))
 
 pub put_truth_spec : {M : Type 1} → statement M
@@ -22,7 +22,7 @@ put_truth_spec =
     (tie.spec
     (λ c κs. search rules)
     (λ c. search rules)
-    returns
+    returns-then-v-eq1
     (λ c κs. search rules)
     (λ c. search rules)
-    returns_2)
+    returns)

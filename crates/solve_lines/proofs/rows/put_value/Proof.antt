@@ -9,14 +9,14 @@ use borrow.Author.Rules.{rules}
 use Rattle.solve_lines.proofs.rows.put_value.Statement.{statement}
 use Rattle.solve_lines.proofs.rows.put_value.Tie as tie
 
-returns : tie.Need-returns-then-byte-lt4
-returns c =
+returns-then-byte-lt4 : tie.Need-returns-then-byte-lt4
+returns-then-byte-lt4 c =
     let s = c.args in
     let digits = c.put_digits.ensures in
     (wrote_as digits.0 (sym (ap (λ (b : Bool). value b s.v) (lt-ltb s.byte 4 c.if-byte-lt4.true))), omega arith)
 
-returns_2 : tie.Need-returns
-returns_2 c =
+returns : tie.Need-returns
+returns c =
     let s = c.args in
     let truth = c.put_truth.ensures in
     (wrote_as truth.0 (sym (ap (λ (b : Bool). value b s.v) (le-ltb s.byte 4 c.if-byte-lt4.false))), omega arith)
@@ -27,7 +27,7 @@ put_value_spec =
     (tie.spec
     (λ c κs. search rules)
     (λ c. search rules)
-    returns
+    returns-then-byte-lt4
     (λ c κs. search rules)
     (λ c. search rules)
-    returns_2)
+    returns)

@@ -34,8 +34,8 @@ some_token (Lexeme.Word n) o text = (word (name_of text n), refl)
 not_closing : (text : List ℕ) (l : Lexeme) → OneOf OTHERS (tag_of l) → is_token closing (lexeme_read text l) ≡ false
 not_closing text l o = other_kind text closing l (λ e. miss OTHERS 2 tt (subst (OneOf OTHERS) e o))
 
-returns : tie.Need-returns-then-ready
-returns c =
+returns-then-ready : tie.Need-returns-then-ready
+returns-then-ready c =
     let told = c.before.before in
     let e = told.in-Closing.is in
     record {
@@ -43,11 +43,11 @@ returns c =
       says = λ text sig arity n seen. (ap (lexeme_read text) e, sym (c.ready.ensures sig arity n seen) ∙ c.if-ready.true);
     }
 
-returns_2 : tie.Need-returns-in-End
-returns_2 c = record { sound = tt; says = λ text sig arity n seen. inl (ap (lexeme_read text) c.in-End.is) }
+returns-in-End : tie.Need-returns-in-End
+returns-in-End c = record { sound = tt; says = λ text sig arity n seen. inl (ap (lexeme_read text) c.in-End.is) }
 
-returns_3 : tie.Need-returns-else-ready
-returns_3 c =
+returns-else-ready : tie.Need-returns-else-ready
+returns-else-ready c =
     let told = c.before.before in
     let e = told.in-Closing.is in
     record {
@@ -55,8 +55,8 @@ returns_3 c =
       says = λ text sig arity n seen. inr (inl (ap (lexeme_read text) e, sym (c.ready.ensures sig arity n seen) ∙ c.if-ready.false));
     }
 
-returns_4 : tie.Need-returns-in-Term
-returns_4 c =
+returns-in-Term : tie.Need-returns-in-Term
+returns-in-Term c =
     let wanted = c.before in
     let others = wanted.in_default.in_default-own.keys3 in
     let l = wanted.args.lexeme in
@@ -65,8 +65,8 @@ returns_4 c =
       says = λ text sig arity n seen. (not_closing text l others, sym (wanted.wants.ensures sig arity n seen) ∙ ap wanted_read c.in-Term.is);
     }
 
-returns_5 : tie.Need-returns-in-Formula
-returns_5 c =
+returns-in-Formula : tie.Need-returns-in-Formula
+returns-in-Formula c =
     let wanted = c.before in
     let others = wanted.in_default.in_default-own.keys3 in
     let l = wanted.args.lexeme in
@@ -75,8 +75,8 @@ returns_5 c =
       says = λ text sig arity n seen. (not_closing text l others, sym (wanted.wants.ensures sig arity n seen) ∙ ap wanted_read c.in-Formula.is);
     }
 
-returns_6 : tie.Need-returns-in-Nothing
-returns_6 c =
+returns-in-Nothing : tie.Need-returns-in-Nothing
+returns-in-Nothing c =
     let wanted = c.before in
     let others = wanted.in_default.in_default-own.keys3 in
     let l = wanted.args.lexeme in
@@ -92,13 +92,13 @@ follows_spec =
     (λ c. search rules)
     (λ c. search rules)
     (λ c κs. search rules)
-    returns
+    returns-then-ready
     (λ c κs. search rules)
     (λ c. search rules)
     (λ c. search rules)
     (λ c. search rules)
-    returns_2
-    returns_3
-    returns_4
-    returns_5
-    returns_6)
+    returns-in-End
+    returns-else-ready
+    returns-in-Term
+    returns-in-Formula
+    returns-in-Nothing)

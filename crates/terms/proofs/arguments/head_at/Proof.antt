@@ -46,8 +46,8 @@ headed : (sig : List Symbol) (s : Sort) (x : tokens.Token) (o : Option tokens.To
 headed sig s x o e (Headed.Head h) i = (x, e, i.0, i.1)
 headed sig s x o e Headed.Nothing i = subst (NoHead sig s) (sym e) i
 
-returns : tie.Need-returns-in_default
-returns c =
+returns-in_default : tie.Need-returns-in_default
+returns-in_default c =
     let s = c.before.before.before in
     record {
       small = tt;
@@ -58,8 +58,8 @@ returns c =
 bracketed-requires : tie.Need-bracketed-requires
 bracketed-requires c κs = ((begin c).requires.0, inside c)
 
-returns_2 : tie.Need-returns
-returns_2 c =
+returns : tie.Need-returns
+returns c =
     let known = c.before in
     record {
       small = c.bracketed.ensures.small;
@@ -73,6 +73,6 @@ head_at_spec =
     tie.close
     (tie.spec
     (λ c. search rules)
-    returns
+    returns-in_default
     bracketed-requires
-    returns_2)
+    returns)

@@ -31,29 +31,29 @@ no_white c = sym c.white.ensures ∙ c.if-white.false
 no_high : (c : tie.Else-within) → within 128 255 c.args.b ≡ false
 no_high c = sym c.within.ensures ∙ c.if-within.false
 
-returns : tie.Need-returns-then-white
-returns c =
+returns-then-white : tie.Need-returns-then-white
+returns-then-white c =
     let b = c.args.b in
     bar_by_lem (white_space b) (within 32 126 b) (others b) (within 128 255 b)
     (or_first (white_space b) (within 128 255 b || (not (others b) && within 32 126 b)) (sym c.white.ensures ∙ c.if-white.true))
 
-returns_2 : tie.Need-returns-then-within
-returns_2 c =
+returns-then-within : tie.Need-returns-then-within
+returns-then-within c =
     let b = c.args.b in
     bar_by_lem (white_space b) (within 32 126 b) (others b) (within 128 255 b)
     (or_later (white_space b) (within 128 255 b || (not (others b) && within 32 126 b)) (no_white c.before.before)
     (or_first (within 128 255 b) (not (others b) && within 32 126 b) (sym c.within.ensures ∙ c.if-within.true)))
 
-returns_3 : tie.Need-returns-then-is_of
-returns_3 c =
+returns-then-is_of : tie.Need-returns-then-is_of
+returns-then-is_of c =
     let b = c.args.b in
     bar_by_lem (white_space b) (within 32 126 b) (others b) (within 128 255 b)
     (or_later (white_space b) (within 128 255 b || (not (others b) && within 32 126 b)) (no_white c.before.before.before.before.before.before)
     (or_later (within 128 255 b) (not (others b) && within 32 126 b) (no_high c.before.before.before.before)
     (sym (ap (λ t. not t && within 32 126 b) (sym c.is_of.ensures ∙ c.if-is_of.true)))))
 
-returns_4 : tie.Need-returns
-returns_4 c =
+returns : tie.Need-returns
+returns c =
     let b = c.args.b in
     bar_by_lem (white_space b) (within 32 126 b) (others b) (within 128 255 b)
     (or_later (white_space b) (within 128 255 b || (not (others b) && within 32 126 b)) (no_white c.before.before.before.before.before.before.before)
@@ -65,10 +65,10 @@ bar_byte_spec =
     tie.close
     (tie.spec
     (λ c κs. search rules)
-    returns
+    returns-then-white
     (λ c κs. search rules)
-    returns_2
+    returns-then-within
     (λ c κs. search rules)
-    returns_3
+    returns-then-is_of
     (λ c κs. search rules)
-    returns_4)
+    returns)

@@ -16,14 +16,14 @@ invariant_loop few b i₀ i = (i ≤ length few) × (is_of (drop i few) b ≡ is
 abbrev decreases_loop : tie.decreases-loop-i
 decreases_loop few b i₀ i = length few - i
 
-loop_holds : tie.Need-loop-i-init invariant_loop decreases_loop
-loop_holds c = (omega arith, refl)
+loop-i-init : tie.Need-loop-i-init invariant_loop decreases_loop
+loop-i-init c = (omega arith, refl)
 
-shared-slice-read-if1 : tie.Need-bounds-few-i invariant_loop decreases_loop
-shared-slice-read-if1 c = omega arith
+bounds-few-i : tie.Need-bounds-few-i invariant_loop decreases_loop
+bounds-few-i c = omega arith
 
-returns : tie.Need-returns-then-b-few invariant_loop decreases_loop
-returns c =
+returns-then-b-few : tie.Need-returns-then-b-few invariant_loop decreases_loop
+returns-then-b-few c =
     let head = c.before.before.before in
     let few = head.args.few.now in
     sym
@@ -31,14 +31,14 @@ returns c =
     ∙ ap (λ t. t || is_of (drop (head.loop-i.i + 1) few) head.args.b) (eq-eqb _ _ c.if-b-few.true))
     ∙ head.loop-i.invariant.1
 
-add-i : tie.Need-overflow_add-i invariant_loop decreases_loop
-add-i c = omega arith
+overflow_add-i : tie.Need-overflow_add-i invariant_loop decreases_loop
+overflow_add-i c = omega arith
 
-loop_less : tie.Need-loop-i-smaller invariant_loop decreases_loop
-loop_less c = omega arith
+loop-i-smaller : tie.Need-loop-i-smaller invariant_loop decreases_loop
+loop-i-smaller c = omega arith
 
-loop_again : tie.Need-loop-i-preserved invariant_loop decreases_loop
-loop_again c =
+loop-i-preserved : tie.Need-loop-i-preserved invariant_loop decreases_loop
+loop-i-preserved c =
     let head = c.before.before.before in
     let few = head.args.few.now in (
       omega arith,
@@ -48,8 +48,8 @@ loop_again c =
           ∙ head.loop-i.invariant.1,
     )
 
-returns_2 : tie.Need-returns invariant_loop decreases_loop
-returns_2 c =
+returns : tie.Need-returns invariant_loop decreases_loop
+returns c =
     let head = c.before in
     ap (λ l. is_of l head.args.b) (sym (drop_of_length-le head.args.few.now {i = head.loop-i.i} (omega arith)))
     ∙ head.loop-i.invariant.1
@@ -60,10 +60,10 @@ is_of_spec =
     (tie.spec
     invariant_loop
     decreases_loop
-    loop_holds
-    shared-slice-read-if1
-    returns
-    add-i
-    loop_less
-    loop_again
-    returns_2)
+    loop-i-init
+    bounds-few-i
+    returns-then-b-few
+    overflow_add-i
+    loop-i-smaller
+    loop-i-preserved
+    returns)

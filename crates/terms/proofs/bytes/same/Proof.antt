@@ -18,17 +18,17 @@ invariant_loop a b i₀ i = (i ≤ length a) × (length a ≡ length b) × (same
 abbrev decreases_loop : tie.decreases-loop-i
 decreases_loop a b i₀ i = length a - i
 
-returns : tie.Need-returns-then-a-b invariant_loop decreases_loop
-returns c = sym (lengths_differ c.args.a.now c.args.b.now c.if-a-b.true)
+returns-then-a-b : tie.Need-returns-then-a-b invariant_loop decreases_loop
+returns-then-a-b c = sym (lengths_differ c.args.a.now c.args.b.now c.if-a-b.true)
 
-loop_holds : tie.Need-loop-i-init invariant_loop decreases_loop
-loop_holds c = (omega arith, omega arith, refl)
+loop-i-init : tie.Need-loop-i-init invariant_loop decreases_loop
+loop-i-init c = (omega arith, omega arith, refl)
 
-shared-slice-read-if2 : tie.Need-bounds-a-i invariant_loop decreases_loop
-shared-slice-read-if2 c = omega arith
+bounds-a-i : tie.Need-bounds-a-i invariant_loop decreases_loop
+bounds-a-i c = omega arith
 
-shared-slice-read-if2-2 : tie.Need-bounds-b-i invariant_loop decreases_loop
-shared-slice-read-if2-2 c = omega arith
+bounds-b-i : tie.Need-bounds-b-i invariant_loop decreases_loop
+bounds-b-i c = omega arith
 
 past : (s : List ℕ) (i : ℕ) → length s ≤ i → drop i s ≡ []
 past s i h = drop_of_length-le s {i = i} h
@@ -47,24 +47,24 @@ module _ (head : tie.At-loop-i invariant_loop decreases_loop) where
       same_step a b head.loop-i.i h (omega arith)
       ∙ ap (λ t. t && same_bytes (drop (head.loop-i.i + 1) a) (drop (head.loop-i.i + 1) b)) e
 
-returns_2 : tie.Need-returns-then-a-i invariant_loop decreases_loop
-returns_2 c =
+returns-then-a-i : tie.Need-returns-then-a-i invariant_loop decreases_loop
+returns-then-a-i c =
     let head = c.before.before.before.before in
     sym (same_by head (omega arith) (ne_eqb _ _ c.if-a-i.true)) ∙ head.loop-i.invariant.2
 
-add-i : tie.Need-overflow_add-i invariant_loop decreases_loop
-add-i c = omega arith
+overflow_add-i : tie.Need-overflow_add-i invariant_loop decreases_loop
+overflow_add-i c = omega arith
 
-loop_less : tie.Need-loop-i-smaller invariant_loop decreases_loop
-loop_less c = omega arith
+loop-i-smaller : tie.Need-loop-i-smaller invariant_loop decreases_loop
+loop-i-smaller c = omega arith
 
-loop_again : tie.Need-loop-i-preserved invariant_loop decreases_loop
-loop_again c =
+loop-i-preserved : tie.Need-loop-i-preserved invariant_loop decreases_loop
+loop-i-preserved c =
     let head = c.before.before.before.before in
     (omega arith, omega arith, sym (same_by head (omega arith) (eq-eqb _ _ c.if-a-i.false)) ∙ head.loop-i.invariant.2)
 
-returns_3 : tie.Need-returns invariant_loop decreases_loop
-returns_3 c =
+returns : tie.Need-returns invariant_loop decreases_loop
+returns c =
     let head = c.before in
     ap₂ {C = Bool} same_bytes (sym (past c.args.a.now head.loop-i.i (omega arith)))
     (sym (past c.args.b.now head.loop-i.i (omega arith)))
@@ -76,12 +76,12 @@ same_spec =
     (tie.spec
     invariant_loop
     decreases_loop
-    returns
-    loop_holds
-    shared-slice-read-if2
-    shared-slice-read-if2-2
-    returns_2
-    add-i
-    loop_less
-    loop_again
-    returns_3)
+    returns-then-a-b
+    loop-i-init
+    bounds-a-i
+    bounds-b-i
+    returns-then-a-i
+    overflow_add-i
+    loop-i-smaller
+    loop-i-preserved
+    returns)

@@ -24,29 +24,29 @@ no_lower c = sym c.within.ensures ∙ c.if-within.false
 no_upper : (c : tie.Else-within-2) → within 65 90 c.args.b ≡ false
 no_upper c = sym c.within-2.ensures ∙ c.if-within-2.false
 
-returns : tie.Need-returns-then-within
-returns c =
+returns-then-within : tie.Need-returns-then-within
+returns-then-within c =
     let b = c.args.b in
     word_by_lem (within 97 122 b) (within 65 90 b) (digit b) (others b)
     (or_first (within 97 122 b) (within 65 90 b || (digit b || others b)) (sym c.within.ensures ∙ c.if-within.true))
 
-returns_2 : tie.Need-returns-then-within-2
-returns_2 c =
+returns-then-within-2 : tie.Need-returns-then-within-2
+returns-then-within-2 c =
     let b = c.args.b in
     word_by_lem (within 97 122 b) (within 65 90 b) (digit b) (others b)
     (or_later (within 97 122 b) (within 65 90 b || (digit b || others b)) (no_lower c.before.before)
     (or_first (within 65 90 b) (digit b || others b) (sym c.within-2.ensures ∙ c.if-within-2.true)))
 
-returns_3 : tie.Need-returns-then-is_digit
-returns_3 c =
+returns-then-is_digit : tie.Need-returns-then-is_digit
+returns-then-is_digit c =
     let b = c.args.b in
     word_by_lem (within 97 122 b) (within 65 90 b) (digit b) (others b)
     (or_later (within 97 122 b) (within 65 90 b || (digit b || others b)) (no_lower c.before.before.before.before)
     (or_later (within 65 90 b) (digit b || others b) (no_upper c.before.before)
     (or_first (digit b) (others b) (sym c.is_digit.ensures ∙ c.if-is_digit.true))))
 
-returns_4 : tie.Need-returns
-returns_4 c =
+returns : tie.Need-returns
+returns c =
     let b = c.args.b in
     word_by_lem (within 97 122 b) (within 65 90 b) (digit b) (others b)
     (or_later (within 97 122 b) (within 65 90 b || (digit b || others b)) (no_lower c.before.before.before.before.before.before.before)
@@ -58,10 +58,10 @@ word_byte_spec =
     tie.close
     (tie.spec
     (λ c κs. search rules)
-    returns
+    returns-then-within
     (λ c κs. search rules)
-    returns_2
+    returns-then-within-2
     (λ c κs. search rules)
-    returns_3
+    returns-then-is_digit
     (λ c κs. search rules)
-    returns_4)
+    returns)

@@ -13,31 +13,31 @@ invariant_loop text from at₀ arity₀ at arity = Counting text from at arity
 abbrev decreases_loop : tie.decreases-loop-arity
 decreases_loop text from at₀ arity₀ at arity = 3 - arity
 
-loop_holds : tie.Need-loop-arity-init invariant_loop decreases_loop
-loop_holds c = record { few = omega arith; inside = omega arith; so_far = omega arith; same_end = refl }
+loop-arity-init : tie.Need-loop-arity-init invariant_loop decreases_loop
+loop-arity-init c = record { few = omega arith; inside = omega arith; so_far = omega arith; same_end = refl }
 
-next_requires : tie.Need-next-token-requires invariant_loop decreases_loop
-next_requires c κs = c.loop-arity.invariant.inside
+next-token-requires : tie.Need-next-token-requires invariant_loop decreases_loop
+next-token-requires c κs = c.loop-arity.invariant.inside
 
 skip-requires : tie.Need-skip-requires invariant_loop decreases_loop
 skip-requires c κs = c.loop-arity.invariant.inside
 
-returns : tie.Need-returns-in_default invariant_loop decreases_loop
-returns c =
+returns-in_default : tie.Need-returns-in_default invariant_loop decreases_loop
+returns-in_default c =
     let lexed = c.before.before in
     let head = lexed.before.before in
     let text = head.args.text.now in
     counted_to text head.args.from head.loop-arity.at head.loop-arity.arity _ head.loop-arity.invariant
     (λ h. no_more text head.loop-arity.at lexed.next-token.result lexed.next-token.ensures c.in_default.in_default-own.keys2) refl c.skip.ensures
 
-add-arity : tie.Need-overflow_add-arity invariant_loop decreases_loop
-add-arity c = omega arith
+overflow_add-arity : tie.Need-overflow_add-arity invariant_loop decreases_loop
+overflow_add-arity c = omega arith
 
-loop_less : tie.Need-loop-arity-smaller invariant_loop decreases_loop
-loop_less c = omega arith
+loop-arity-smaller : tie.Need-loop-arity-smaller invariant_loop decreases_loop
+loop-arity-smaller c = omega arith
 
-loop_again : tie.Need-loop-arity-preserved invariant_loop decreases_loop
-loop_again c =
+loop-arity-preserved : tie.Need-loop-arity-preserved invariant_loop decreases_loop
+loop-arity-preserved c =
     let lexed = c.before in
     let head = lexed.before.before in
     let text = head.args.text.now in
@@ -54,8 +54,8 @@ loop_again c =
 skip-requires-2 : tie.Need-skip-requires-2 invariant_loop decreases_loop
 skip-requires-2 c κs = c.loop-arity.invariant.inside
 
-returns_2 : tie.Need-returns invariant_loop decreases_loop
-returns_2 c =
+returns : tie.Need-returns invariant_loop decreases_loop
+returns c =
     let head = c.before.before in
     let text = head.args.text.now in
     let so_far = head.loop-arity.invariant.so_far in
@@ -67,13 +67,13 @@ arguments_spec =
     (tie.spec
     invariant_loop
     decreases_loop
-    loop_holds
-    next_requires
+    loop-arity-init
+    next-token-requires
     (λ c. search rules)
     skip-requires
-    returns
-    add-arity
-    loop_less
-    loop_again
+    returns-in_default
+    overflow_add-arity
+    loop-arity-smaller
+    loop-arity-preserved
     skip-requires-2
-    returns_2)
+    returns)

@@ -8,8 +8,8 @@ use borrow.Author.Rules.{rules}
 use Rattle.terms.proofs.declarations.byte_at.Statement.{statement}
 use Rattle.terms.proofs.declarations.byte_at.Tie as tie
 
-returns : tie.Need-returns-then-gives_sort
-returns c =
+returns-then-gives_sort : tie.Need-returns-then-gives_sort
+returns-then-gives_sort c =
     let given = c.before in
     let counted = given.before in
     let s = counted.before.before.before.before in
@@ -18,8 +18,8 @@ returns c =
     byte_by text sn s.args.at _ _ counted.arguments-counted.result counted.skip-bracket.ensures counted.skip-inner.ensures counted.arguments-counted.ensures term
     (subst (ResultIs sn (plain_at text counted.arguments-counted.result.next)) c.if-gives_sort.true given.gives_sort.ensures)
 
-returns_2 : tie.Need-returns
-returns_2 c =
+returns : tie.Need-returns
+returns c =
     let given = c.before.before in
     let counted = given.before in
     let s = counted.before.before.before.before in
@@ -36,6 +36,6 @@ byte_at_spec =
     (λ c κs. search rules)
     (λ c κs. search rules)
     (λ c κs. search rules)
-    returns
+    returns-then-gives_sort
     (λ c. search rules)
-    returns_2)
+    returns)

@@ -13,8 +13,8 @@ inside c =
     let s = c.before.before.before in
     subst (NameWithin s.args.text.now) (sym c.name_of-found.ensures) (name_inside s.args.text.now s.args.at c.next-token.result c.next-token.ensures)
 
-sub-same-2 : tie.Need-slice_bounds-same-count-2
-sub-same-2 c = (inside c.before).0
+slice_bounds-same-count-2 : tie.Need-slice_bounds-same-count-2
+slice_bounds-same-count-2 c = (inside c.before).0
 
 returns : tie.Need-returns
 returns c =
@@ -33,7 +33,7 @@ declares_spec =
     (λ c. search rules)
     (λ c. search rules)
     (λ c. search rules)
-    sub-same-2
+    slice_bounds-same-count-2
     (λ c. search rules)
     (λ c. search rules)
     (λ c κs. search rules)

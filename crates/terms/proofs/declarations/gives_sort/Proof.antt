@@ -8,15 +8,15 @@ use borrow.Author.Rules.{rules}
 use Rattle.terms.proofs.declarations.gives_sort.Statement.{statement}
 use Rattle.terms.proofs.declarations.gives_sort.Tie as tie
 
-returns : tie.Need-returns-in-At
-returns c =
+returns-in-At : tie.Need-returns-in-At
+returns-in-At c =
     let s = c.before.before.before.before in
     let text = s.args.text.now in
     let sn = name_of text s.args.sort in
     result_sort text s.args.at sn _ (subst (Exactly text s.args.at (symbol sn)) c.in-At.is c.exact-step.ensures.0)
 
-returns_2 : tie.Need-returns-in-Wrong
-returns_2 c =
+returns-in-Wrong : tie.Need-returns-in-Wrong
+returns-in-Wrong c =
     let s = c.before.before.before.before in
     let text = s.args.text.now in
     let sn = name_of text s.args.sort in
@@ -32,5 +32,5 @@ gives_sort_spec =
     (λ c κs. search rules)
     (λ c. search rules)
     (λ c. search rules)
-    returns
-    returns_2)
+    returns-in-At
+    returns-in-Wrong)

@@ -15,17 +15,17 @@ use Rattle.terms.proofs.declarations.is_declaring.Tie as tie
 inside : (c : tie.In-Word) → NameWithin c.args.text.now c.in-Word.name
 inside c = let s = c.before.before in subst (LexemeInside s.args.text.now) c.in-Word.is s.requires
 
-sub_same : tie.Need-slice_bounds-same-count
-sub_same c = (inside c.before.before).0
+slice_bounds-same-count : tie.Need-slice_bounds-same-count
+slice_bounds-same-count c = (inside c.before.before).0
 
-returns : tie.Need-returns-in-Word
-returns c =
+returns-in-Word : tie.Need-returns-in-Word
+returns-in-Word c =
     let known = c.before.before.before.before in
     let s = known.before.before in
     c.same.ensures ∙ sym (ap (λ (l : Lexeme). is_token (word (ascii "declare-fun")) (lexeme_read s.args.text.now l)) known.in-Word.is)
 
-returns_2 : tie.Need-returns
-returns_2 c =
+returns : tie.Need-returns
+returns c =
     let s = c.before.before in
     sym (no_word s.args.text.now s.args.lexeme (ascii "declare-fun") c.in_default.in_default-own.keys2)
 
@@ -34,9 +34,9 @@ is_declaring_spec =
     tie.close
     (tie.spec
     (λ c. search rules)
-    sub_same
+    slice_bounds-same-count
     (λ c. search rules)
     (λ c. search rules)
     (λ c κs. search rules)
-    returns
-    returns_2)
+    returns-in-Word
+    returns)

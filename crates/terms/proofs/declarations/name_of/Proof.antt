@@ -4,8 +4,8 @@ use borrow.Author.Rules.{rules}
 use Rattle.terms.proofs.declarations.name_of.Statement.{statement}
 use Rattle.terms.proofs.declarations.name_of.Tie as tie
 
-returns_3 : tie.Need-returns-in_default
-returns_3 c = nameless c.args.lexeme c.in_default.in_default-own.keys3
+returns-in_default : tie.Need-returns-in_default
+returns-in_default c = nameless c.args.lexeme c.in_default.in_default-own.keys3
 
 pub name_of_spec : {M : Type 1} → statement M
 name_of_spec =
@@ -15,4 +15,4 @@ name_of_spec =
     (λ c. search rules)
     (λ c. search rules)
     (λ c. search rules)
-    returns_3)
+    returns-in_default)

@@ -4,13 +4,13 @@ use borrow.Author.Rules.{rules}
 use Rattle.terms.proofs.declarations.skip.Statement.{statement}
 use Rattle.terms.proofs.declarations.skip.Tie as tie
 
-returns : tie.Need-returns-in-End
-returns c =
+returns-in-End : tie.Need-returns-in-End
+returns-in-End c =
     let s = c.before.before.before in
     skip_end s.args.text.now s.args.at c.next-token.result c.next-token.ensures c.in-End.is
 
-returns_2 : tie.Need-returns
-returns_2 c =
+returns : tie.Need-returns
+returns c =
     let s = c.before.before.before in
     skip_token s.args.text.now s.args.at c.next-token.result c.next-token.ensures c.in_default.in_default-own.keys2
 
@@ -20,5 +20,5 @@ skip_spec =
     (tie.spec
     (λ c κs. search rules)
     (λ c. search rules)
-    returns
-    returns_2)
+    returns-in-End
+    returns)

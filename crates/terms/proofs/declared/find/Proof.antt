@@ -31,37 +31,37 @@ module _ (c : tie.In-At) where
   there : 3 * c.in-At.number + 3 ≤ length start.args.shelf.now
   there = omega (arith, found.0, held.shelved-held.ensures.1)
 
-on-shelf-requires : tie.Need-on_shelf-found-requires
-on-shelf-requires c κs =
+on_shelf-found-requires : tie.Need-on_shelf-found-requires
+on_shelf-found-requires c κs =
     let s = c.before.before.before in
     (shelf_fewer _ _ _ _ c.shelved-held.ensures.0 s.requires.0.sound, c.shelved-held.ensures.1, s.requires.1)
 
-mul-t9 : tie.Need-overflow_mul-result
-mul-t9 c = omega (arith, there c)
+overflow_mul-result : tie.Need-overflow_mul-result
+overflow_mul-result c = omega (arith, there c)
 
-add-t10 : tie.Need-overflow_add-result
-add-t10 c = omega (arith, there c)
+overflow_add-result : tie.Need-overflow_add-result
+overflow_add-result c = omega (arith, there c)
 
-mul-t11 : tie.Need-offset_bounds-shelf-number
-mul-t11 c = omega (arith, there c)
+offset_bounds-shelf-number : tie.Need-offset_bounds-shelf-number
+offset_bounds-shelf-number c = omega (arith, there c)
 
-shared-slice-read-t13 : tie.Need-bounds-shelf-number
-shared-slice-read-t13 c = omega (arith, there c.before)
+bounds-shelf-number : tie.Need-bounds-shelf-number
+bounds-shelf-number c = omega (arith, there c.before)
 
-returns : tie.Need-returns-in-At
-returns c =
+returns-in-At : tie.Need-returns-in-At
+returns-in-At c =
     let known = c.before in
     let s = start known in
     finds_on_shelf s.args.text.now s.args.shelf.now s.args.declared (name s) _ (held known).shelved-held.ensures.0 (held known).shelved-held.ensures.1 _
     s.requires.0.sound (found known)
 
-returns_2 : tie.Need-returns-then-held-count
-returns_2 c =
+returns-then-held-count : tie.Need-returns-then-held-count
+returns-then-held-count c =
     let s = c.before.before.before.before.before.before.before in
     finds_in_text s.args.text.now s.args.shelf.now s.args.declared (name s) c.find_in_text.result c.find_in_text.ensures
 
-returns_3 : tie.Need-returns
-returns_3 c =
+returns : tie.Need-returns
+returns c =
     let told = c.before in
     let held = told.before.before in
     let s = held.before.before.before in
@@ -73,14 +73,14 @@ find_spec =
     tie.close
     (tie.spec
     (λ c κs. search rules)
-    on-shelf-requires
+    on_shelf-found-requires
     (λ c. search rules)
-    mul-t9
-    add-t10
-    mul-t11
-    shared-slice-read-t13
-    returns
+    overflow_mul-result
+    overflow_add-result
+    offset_bounds-shelf-number
+    bounds-shelf-number
+    returns-in-At
     (λ c. search rules)
     (λ c κs. search rules)
-    returns_2
-    returns_3)
+    returns-then-held-count
+    returns)

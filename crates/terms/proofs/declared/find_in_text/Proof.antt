@@ -30,60 +30,60 @@ module _ (c : tie.In_default invariant_loop decreases_loop) where
         c.next-token.ensures.inside,
       )
 
-loop_holds : tie.Need-loop-number-init invariant_loop decreases_loop
-loop_holds c = scan_start _ _ _ _
+loop-number-init : tie.Need-loop-number-init invariant_loop decreases_loop
+loop-number-init c = scan_start _ _ _ _
 
-next_requires : tie.Need-next-token-requires invariant_loop decreases_loop
-next_requires c κs = c.loop-number.invariant.inside
+next-token-requires : tie.Need-next-token-requires invariant_loop decreases_loop
+next-token-requires c κs = c.loop-number.invariant.inside
 
-returns : tie.Need-returns-in-End invariant_loop decreases_loop
-returns c =
+returns-in-End : tie.Need-returns-in-End invariant_loop decreases_loop
+returns-in-End c =
     let lexed = c.before in
     let head = lexed.before.before in
     let text = head.args.text.now in
     scan_ends _ _ _ _ _ _ head.loop-number.invariant lexed.next-token.result lexed.next-token.ensures (ap (lexeme_read text) c.in-End.is)
 
-is-declaring-requires : tie.Need-is_declaring-requires invariant_loop decreases_loop
-is-declaring-requires c κs = let head = c.before.before.before in name_inside head.args.text.now head.loop-number.at c.next-token.result c.next-token.ensures
+is_declaring-requires : tie.Need-is_declaring-requires invariant_loop decreases_loop
+is_declaring-requires c κs = let head = c.before.before.before in name_inside head.args.text.now head.loop-number.at c.next-token.result c.next-token.ensures
 
-loop_less : tie.Need-loop-number-smaller-then-not-is_declaring invariant_loop decreases_loop
-loop_less c = omega (arith, onward c.before.before)
+loop-number-smaller-then-not-is_declaring : tie.Need-loop-number-smaller-then-not-is_declaring invariant_loop decreases_loop
+loop-number-smaller-then-not-is_declaring c = omega (arith, onward c.before.before)
 
-loop_again : tie.Need-loop-number-preserved-then-not-is_declaring invariant_loop decreases_loop
-loop_again c =
+loop-number-preserved-then-not-is_declaring : tie.Need-loop-number-preserved-then-not-is_declaring invariant_loop decreases_loop
+loop-number-preserved-then-not-is_declaring c =
     let some = c.before.before in
     scan_on _ _ _ _ _ _ (head some).loop-number.invariant some.next-token.result some.next-token.ensures some.in_default.in_default-own.keys2 (sym c.is_declaring.ensures ∙ c.if-not-is_declaring.true)
 
 declares-requires : tie.Need-declares-requires invariant_loop decreases_loop
 declares-requires c κs = (c.next-token.ensures.inside, (head c.before.before).requires.1)
 
-byte-at-requires : tie.Need-byte_at-requires invariant_loop decreases_loop
-byte-at-requires c κs = (c.next-token.ensures.inside, (head c.before.before.before.before).requires.0)
+byte_at-requires : tie.Need-byte_at-requires invariant_loop decreases_loop
+byte_at-requires c κs = (c.next-token.ensures.inside, (head c.before.before.before.before).requires.0)
 
-returns_2 : tie.Need-returns-then-declares invariant_loop decreases_loop
-returns_2 c =
+returns-then-declares : tie.Need-returns-then-declares invariant_loop decreases_loop
+returns-then-declares c =
     let told = c.before.before in
     let else = told.before in
     let some = else.before.before in
     scan_finds _ _ _ _ _ _ (head some).loop-number.invariant some.next-token.result some.next-token.ensures some.in_default.in_default-own.keys2
     (sym else.is_declaring.ensures ∙ else.if-not-is_declaring.false) (omega arith) told.declares.ensures c.if-declares.true _ c.byte_at.ensures
 
-add-number : tie.Need-overflow_add-number invariant_loop decreases_loop
-add-number c = omega arith
+overflow_add-number : tie.Need-overflow_add-number invariant_loop decreases_loop
+overflow_add-number c = omega arith
 
-loop-less-2 : tie.Need-loop-number-smaller invariant_loop decreases_loop
-loop-less-2 c = omega (arith, onward c.before.before.before.before)
+loop-number-smaller : tie.Need-loop-number-smaller invariant_loop decreases_loop
+loop-number-smaller c = omega (arith, onward c.before.before.before.before)
 
-loop-again-2 : tie.Need-loop-number-preserved invariant_loop decreases_loop
-loop-again-2 c =
+loop-number-preserved : tie.Need-loop-number-preserved invariant_loop decreases_loop
+loop-number-preserved c =
     let told = c.before in
     let else = told.before in
     let some = else.before.before in
     scan_later _ _ _ _ _ _ (head some).loop-number.invariant some.next-token.result some.next-token.ensures some.in_default.in_default-own.keys2
     (sym else.is_declaring.ensures ∙ else.if-not-is_declaring.false) (omega arith) told.declares.ensures c.if-declares.false
 
-returns_3 : tie.Need-returns invariant_loop decreases_loop
-returns_3 c = scan_counted _ _ _ _ _ _ c.loop-number.invariant (omega arith)
+returns : tie.Need-returns invariant_loop decreases_loop
+returns c = scan_counted _ _ _ _ _ _ c.loop-number.invariant (omega arith)
 
 pub find_in_text_spec : {M : Type 1} → statement M
 find_in_text_spec =
@@ -91,17 +91,17 @@ find_in_text_spec =
     (tie.spec
     invariant_loop
     decreases_loop
-    loop_holds
-    next_requires
+    loop-number-init
+    next-token-requires
     (λ c. search rules)
-    returns
-    is-declaring-requires
-    loop_less
-    loop_again
+    returns-in-End
+    is_declaring-requires
+    loop-number-smaller-then-not-is_declaring
+    loop-number-preserved-then-not-is_declaring
     declares-requires
-    byte-at-requires
-    returns_2
-    add-number
-    loop-less-2
-    loop-again-2
-    returns_3)
+    byte_at-requires
+    returns-then-declares
+    overflow_add-number
+    loop-number-smaller
+    loop-number-preserved
+    returns)

@@ -10,14 +10,14 @@ use borrow.Author.Rules.{rules}
 use Rattle.terms.proofs.declared.free.Statement.{statement}
 use Rattle.terms.proofs.declared.free.Tie as tie
 
-returns : tie.Need-returns-in_default
-returns c =
+returns-in_default : tie.Need-returns-in_default
+returns-in_default c =
     let core = c.before in
     let s = core.before.before.before.before in
     λ sn cs y. sym (core_taken (symbols_in cs) (name_of s.args.text.now s.args.name) _ (sym core.core.ensures ∙ ap found_of c.in_default.is))
 
-returns_2 : tie.Need-returns-in_default-find
-returns_2 c =
+returns-in_default-find : tie.Need-returns-in_default-find
+returns-in_default-find c =
     let found = c.before in
     let core = found.before.before in
     let s = core.before.before.before.before in
@@ -26,8 +26,8 @@ returns_2 c =
     sym (declared_taken (symbols_in cs) name _ (sym core.core.ensures ∙ ap found_of found.in-Nothing.is)
     (subst (KnownIs (symbols_in cs) name) c.in_default-find.is (found.find.ensures.known sn cs y)).0)
 
-returns_3 : tie.Need-returns
-returns_3 c =
+returns : tie.Need-returns
+returns c =
     let told = c.before.before in
     let found = told.before in
     let core = found.before.before in
@@ -48,13 +48,13 @@ free_spec =
     (λ c κs. search rules)
     (λ c. search rules)
     (λ c. search rules)
-    returns
+    returns-in_default
     (λ c κs. search rules)
     (λ c. search rules)
     (λ c. search rules)
-    returns_2
+    returns-in_default-find
     (λ c. search rules)
     (λ c. search rules)
     (λ c. search rules)
     (λ c κs. search rules)
-    returns_3)
+    returns)

@@ -40,51 +40,51 @@ module _ (c : tie.In-loop-i invariant_loop decreases_loop) where
   inside : to_on shelf c.loop-i.i ≤ length start.args.text.now
   inside = start.requires.0.inside c.loop-i.i on
 
-loop_holds : tie.Need-loop-i-init invariant_loop decreases_loop
-loop_holds c = (omega arith, λ j h. absurd (omega arith))
+loop-i-init : tie.Need-loop-i-init invariant_loop decreases_loop
+loop-i-init c = (omega arith, λ j h. absurd (omega arith))
 
-mul-from : tie.Need-overflow_mul-from invariant_loop decreases_loop
-mul-from c = omega (arith, there c)
+overflow_mul-from : tie.Need-overflow_mul-from invariant_loop decreases_loop
+overflow_mul-from c = omega (arith, there c)
 
-mul-from-2 : tie.Need-offset_bounds-shelf-i invariant_loop decreases_loop
-mul-from-2 c = omega (arith, there c)
+offset_bounds-shelf-i : tie.Need-offset_bounds-shelf-i invariant_loop decreases_loop
+offset_bounds-shelf-i c = omega (arith, there c)
 
-shared-slice-read-from : tie.Need-bounds-shelf-i invariant_loop decreases_loop
-shared-slice-read-from c = omega (arith, there c.before)
+bounds-shelf-i : tie.Need-bounds-shelf-i invariant_loop decreases_loop
+bounds-shelf-i c = omega (arith, there c.before)
 
-mul-to : tie.Need-overflow_mul-to invariant_loop decreases_loop
-mul-to c = omega (arith, there c.before)
+overflow_mul-to : tie.Need-overflow_mul-to invariant_loop decreases_loop
+overflow_mul-to c = omega (arith, there c.before)
 
-add-to : tie.Need-overflow_add-to invariant_loop decreases_loop
-add-to c = omega (arith, there c.before)
+overflow_add-to : tie.Need-overflow_add-to invariant_loop decreases_loop
+overflow_add-to c = omega (arith, there c.before)
 
-mul-to-2 : tie.Need-offset_bounds-shelf-i-in-loop-i invariant_loop decreases_loop
-mul-to-2 c = omega (arith, there c.before)
+offset_bounds-shelf-i-in-loop-i : tie.Need-offset_bounds-shelf-i-in-loop-i invariant_loop decreases_loop
+offset_bounds-shelf-i-in-loop-i c = omega (arith, there c.before)
 
-shared-slice-read-to : tie.Need-bounds-shelf-i-in-loop-i invariant_loop decreases_loop
-shared-slice-read-to c = omega (arith, there c.before.before)
+bounds-shelf-i-in-loop-i : tie.Need-bounds-shelf-i-in-loop-i invariant_loop decreases_loop
+bounds-shelf-i-in-loop-i c = omega (arith, there c.before.before)
 
-sub-same-2 : tie.Need-slice_bounds-same-count-in-loop-i invariant_loop decreases_loop
-sub-same-2 c = onward c.before.before.before
+slice_bounds-same-count-in-loop-i : tie.Need-slice_bounds-same-count-in-loop-i invariant_loop decreases_loop
+slice_bounds-same-count-in-loop-i c = onward c.before.before.before
 
-returns : tie.Need-returns-then-same invariant_loop decreases_loop
-returns c =
+returns-then-same : tie.Need-returns-then-same invariant_loop decreases_loop
+returns-then-same c =
     let head = c.before.before.before.before.before.before.before in
     (omega arith, sym c.same.ensures ∙ c.if-same.true, head.loop-i.invariant.1)
 
-add-i : tie.Need-overflow_add-i invariant_loop decreases_loop
-add-i c = omega arith
+overflow_add-i : tie.Need-overflow_add-i invariant_loop decreases_loop
+overflow_add-i c = omega arith
 
-loop_less : tie.Need-loop-i-smaller invariant_loop decreases_loop
-loop_less c = omega arith
+loop-i-smaller : tie.Need-loop-i-smaller invariant_loop decreases_loop
+loop-i-smaller c = omega arith
 
-loop_again : tie.Need-loop-i-preserved invariant_loop decreases_loop
-loop_again c =
+loop-i-preserved : tie.Need-loop-i-preserved invariant_loop decreases_loop
+loop-i-preserved c =
     let head = c.before.before.before.before.before.before.before in
     (omega arith, below_more _ _ head.loop-i.invariant.1 (sym c.same.ensures ∙ c.if-same.false))
 
-returns_2 : tie.Need-returns invariant_loop decreases_loop
-returns_2 c = λ j h. c.loop-i.invariant.1 j (omega arith)
+returns : tie.Need-returns invariant_loop decreases_loop
+returns c = λ j h. c.loop-i.invariant.1 j (omega arith)
 
 pub on_shelf_spec : {M : Type 1} → statement M
 on_shelf_spec =
@@ -92,23 +92,23 @@ on_shelf_spec =
     (tie.spec
     invariant_loop
     decreases_loop
-    loop_holds
-    mul-from
-    mul-from-2
-    shared-slice-read-from
-    mul-to
-    add-to
-    mul-to-2
-    shared-slice-read-to
+    loop-i-init
+    overflow_mul-from
+    offset_bounds-shelf-i
+    bounds-shelf-i
+    overflow_mul-to
+    overflow_add-to
+    offset_bounds-shelf-i-in-loop-i
+    bounds-shelf-i-in-loop-i
     (λ c. search rules)
     (λ c. search rules)
     (λ c. search rules)
-    sub-same-2
+    slice_bounds-same-count-in-loop-i
     (λ c. search rules)
     (λ c. search rules)
     (λ c κs. search rules)
-    returns
-    add-i
-    loop_less
-    loop_again
-    returns_2)
+    returns-then-same
+    overflow_add-i
+    loop-i-smaller
+    loop-i-preserved
+    returns)

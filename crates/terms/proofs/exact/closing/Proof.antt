@@ -6,13 +6,13 @@ use borrow.Author.Rules.{rules}
 use Rattle.terms.proofs.exact.closing.Statement.{statement}
 use Rattle.terms.proofs.exact.closing.Tie as tie
 
-returns : tie.Need-returns-in-Closing
-returns c =
+returns-in-Closing : tie.Need-returns-in-Closing
+returns-in-Closing c =
     let s = c.before.before.before in
     (c.next-token.result, c.next-token.ensures, ap (lexeme_read s.args.text.now) c.in-Closing.is, refl)
 
-returns_2 : tie.Need-returns
-returns_2 c =
+returns : tie.Need-returns
+returns c =
     let s = c.before.before.before in
     (c.next-token.result, c.next-token.ensures, no_closing s.args.text.now c.next-token.result.lexeme c.in_default.in_default-own.keys2, refl)
 
@@ -22,5 +22,5 @@ closing_spec =
     (tie.spec
     (λ c κs. search rules)
     (λ c. search rules)
-    returns
-    returns_2)
+    returns-in-Closing
+    returns)

@@ -13,8 +13,8 @@ use Rattle.terms.proofs.exact.exact.Tie as tie
 at_inside : (c : tie.In-At) → c.in-At.at ≤ length c.args.text.now
 at_inside c = let s = c.before.before.before in subst (StepWithin s.args.text.now) c.in-At.is s.requires
 
-returns : tie.Need-returns-in_default
-returns c =
+returns-in_default : tie.Need-returns-in_default
+returns-in_default c =
     let s = c.before.before.before in
     let e = c.in_default.is in
     (subst (λ (z : Step). Exacts s.args.text.now (due_read s.args.due s.args.name.now) z s.args.step) (sym e) e, s.requires)
@@ -34,28 +34,28 @@ word-requires c κs = at_inside c.before
 symbol-requires : tie.Need-symbol-requires
 symbol-requires c κs = at_inside c.before
 
-returns_2 : tie.Need-returns-in-Opening
-returns_2 c =
+returns-in-Opening : tie.Need-returns-in-Opening
+returns-in-Opening c =
     let s = c.before.before.before.before.before in
     due_met s.args.text.now s.args.name.now c.opening.result c.in-At.is c.in-Opening.is c.opening.ensures
 
-returns_3 : tie.Need-returns-in-Closing
-returns_3 c =
+returns-in-Closing : tie.Need-returns-in-Closing
+returns-in-Closing c =
     let s = c.before.before.before.before.before in
     due_met s.args.text.now s.args.name.now c.closing.result c.in-At.is c.in-Closing.is c.closing.ensures
 
-returns_4 : tie.Need-returns-in-Nought
-returns_4 c =
+returns-in-Nought : tie.Need-returns-in-Nought
+returns-in-Nought c =
     let s = c.before.before.before.before.before in
     due_met s.args.text.now s.args.name.now c.nought.result c.in-At.is c.in-Nought.is c.nought.ensures
 
-returns_5 : tie.Need-returns-in-Word
-returns_5 c =
+returns-in-Word : tie.Need-returns-in-Word
+returns-in-Word c =
     let s = c.before.before.before.before.before in
     due_met s.args.text.now s.args.name.now c.word.result c.in-At.is c.in-Word.is c.word.ensures
 
-returns_6 : tie.Need-returns-in-Symbol
-returns_6 c =
+returns-in-Symbol : tie.Need-returns-in-Symbol
+returns-in-Symbol c =
     let s = c.before.before.before.before.before in
     due_met s.args.text.now s.args.name.now c.symbol.result c.in-At.is c.in-Symbol.is c.symbol.ensures
 
@@ -65,7 +65,7 @@ exact_spec =
     (tie.spec
     (λ c. search rules)
     (λ c. search rules)
-    returns
+    returns-in_default
     (λ c. search rules)
     opening-requires
     (λ c. search rules)
@@ -76,8 +76,8 @@ exact_spec =
     word-requires
     (λ c. search rules)
     symbol-requires
-    returns_2
-    returns_3
-    returns_4
-    returns_5
-    returns_6)
+    returns-in-Opening
+    returns-in-Closing
+    returns-in-Nought
+    returns-in-Word
+    returns-in-Symbol)

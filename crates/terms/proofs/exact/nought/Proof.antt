@@ -6,13 +6,13 @@ use borrow.Author.Rules.{rules}
 use Rattle.terms.proofs.exact.nought.Statement.{statement}
 use Rattle.terms.proofs.exact.nought.Tie as tie
 
-returns : tie.Need-returns-in-Nought
-returns c =
+returns-in-Nought : tie.Need-returns-in-Nought
+returns-in-Nought c =
     let s = c.before.before.before in
     (c.next-token.result, c.next-token.ensures, ap (lexeme_read s.args.text.now) c.in-Nought.is, refl)
 
-returns_2 : tie.Need-returns
-returns_2 c =
+returns : tie.Need-returns
+returns c =
     let s = c.before.before.before in
     (c.next-token.result, c.next-token.ensures, no_nought s.args.text.now c.next-token.result.lexeme c.in_default.in_default-own.keys2, refl)
 
@@ -22,5 +22,5 @@ nought_spec =
     (tie.spec
     (λ c κs. search rules)
     (λ c. search rules)
-    returns
-    returns_2)
+    returns-in-Nought
+    returns)

@@ -28,11 +28,11 @@ module _ (c : tie.In-Symbol) where
   inside : NameWithin start.args.text.now found
   inside = (subst (LexemeWithin start.args.text.now start.args.at c.next-token.result) is_named c.next-token.ensures.fits).1
 
-sub_same : tie.Need-slice_bounds-same-count
-sub_same c = (inside c).0
+slice_bounds-same-count : tie.Need-slice_bounds-same-count
+slice_bounds-same-count c = (inside c).0
 
-returns : tie.Need-returns-then-same
-returns c =
+returns-then-same : tie.Need-returns-then-same
+returns-then-same c =
     let known = c.before.before.before in
     let text = (start known).args.text.now in
     let lexed = known.next-token in (
@@ -42,8 +42,8 @@ returns c =
       refl,
     )
 
-returns_2 : tie.Need-returns-in-Symbol
-returns_2 c =
+returns-in-Symbol : tie.Need-returns-in-Symbol
+returns-in-Symbol c =
     let known = c.before.before.before in
     let text = (start known).args.text.now in
     let lexed = known.next-token in (
@@ -53,8 +53,8 @@ returns_2 c =
       refl,
     )
 
-returns_3 : tie.Need-returns
-returns_3 c =
+returns : tie.Need-returns
+returns c =
     let s = c.before.before.before.before in
     (c.next-token.result, c.next-token.ensures, no_symbol_lem s.args.text.now c.next-token.result.lexeme s.args.name.now c.in_default.in_default-own.keys2, refl)
 
@@ -64,10 +64,10 @@ symbol_spec =
     (tie.spec
     (λ c κs. search rules)
     (λ c. search rules)
-    sub_same
+    slice_bounds-same-count
     (λ c. search rules)
     (λ c. search rules)
     (λ c κs. search rules)
-    returns
-    returns_2
-    returns_3)
+    returns-then-same
+    returns-in-Symbol
+    returns)

@@ -72,8 +72,8 @@ opened c sn cs symbols r =
     exactly_on (text known) (name_read sn cs (name_of (text known) (found known))) opening (taking (name_of (text known) (found known)) 0) (Step.At _) c.exact.result
     (omega arith) c.exact.ensures.0 (named else sn cs symbols r)
 
-returns : tie.Need-returns-in_default
-returns c =
+returns-in_default : tie.Need-returns-in_default
+returns-in_default c =
     let s = c.before.before.before.before in
     let lexed = c.next-token in
     record {
@@ -85,8 +85,8 @@ returns c =
 free-requires : tie.Need-free-requires
 free-requires c κs = ((begin c).requires.0, inside c)
 
-returns_2 : tie.Need-returns-then-not-free
-returns_2 c =
+returns-then-not-free : tie.Need-returns-then-not-free
+returns-then-not-free c =
     let known = c.before.before in
     let lexed = known.next-token in
     record {
@@ -95,8 +95,8 @@ returns_2 c =
           function_taken (text known) sn cs (begin known).args.at r lexed.result lexed.ensures _ (reads known) (sym (c.free.ensures sn cs symbols) ∙ c.if-not-free.true);
     }
 
-returns_3 : tie.Need-returns-in-At
-returns_3 c =
+returns-in-At : tie.Need-returns-in-At
+returns-in-At c =
     let exacts = c.before in
     let else = exacts.before.before.before in
     let known = else.before.before in
@@ -110,8 +110,8 @@ returns_3 c =
           (subst (ReachedBy (text known) (in_taking sn cs (name_of (text known) (found known)) 0)) c.in-At.is (opened exacts sn cs symbols r), is_new_lem else sn cs symbols);
     }
 
-returns_4 : tie.Need-returns-in-Wrong
-returns_4 c =
+returns-in-Wrong : tie.Need-returns-in-Wrong
+returns-in-Wrong c =
     let exacts = c.before in
     let known = exacts.before.before.before.before.before in
     record {
@@ -125,11 +125,11 @@ function_name_spec =
     (tie.spec
     (λ c κs. search rules)
     (λ c. search rules)
-    returns
+    returns-in_default
     free-requires
-    returns_2
+    returns-then-not-free
     (λ c κs. search rules)
     (λ c. search rules)
     (λ c. search rules)
-    returns_3
-    returns_4)
+    returns-in-At
+    returns-in-Wrong)

@@ -69,16 +69,16 @@ closed c cs name r =
 exact-requires : tie.Need-exact-requires
 exact-requires c κs = (behind_inside c.before.before.before).0
 
-returns : tie.Need-returns-in-Wrong
-returns c =
+returns-in-Wrong : tie.Need-returns-in-Wrong
+returns-in-Wrong c =
     let s = c.before.before.before in
     record {
       sound = tt;
       says = λ cs name r. subst (ResultIs s.args.text.now _ cs name s.args.arity) c.in-Wrong.is (c.read_result.ensures.says cs name s.args.arity r);
     }
 
-returns_2 : tie.Need-returns-in-At
-returns_2 c =
+returns-in-At : tie.Need-returns-in-At
+returns-in-At c =
     let exacts = c.before in
     let joined = exacts.before.before.before in
     let known = joined.before in
@@ -94,8 +94,8 @@ returns_2 c =
           (f known, (byte_is joined).0, subst (ReachedBy (text known) _) c.in-At.is (closed exacts cs name r));
     }
 
-returns_3 : tie.Need-returns-in-Wrong-exact
-returns_3 c =
+returns-in-Wrong-exact : tie.Need-returns-in-Wrong-exact
+returns-in-Wrong-exact c =
     let exacts = c.before in
     let known = exacts.before.before.before.before in
     record {
@@ -114,6 +114,6 @@ rank_of_spec =
     exact-requires
     (λ c. search rules)
     (λ c. search rules)
-    returns
-    returns_2
-    returns_3)
+    returns-in-Wrong
+    returns-in-At
+    returns-in-Wrong-exact)

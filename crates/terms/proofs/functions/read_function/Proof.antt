@@ -57,22 +57,22 @@ module _ (c : tie.In-Counted) where
   giving sn cs symbols r =
       subst (ArityIs (text known) _ cs (name_of (text known) (name known))) c.in-Counted.is (c.read_arity.ensures.says cs _ (taking known sn cs symbols r))
 
-read-arity-requires : tie.Need-read_arity-requires
-read-arity-requires c κs = ((name_sound c).1, (begin c).requires.0.sort_inside)
+read_arity-requires : tie.Need-read_arity-requires
+read_arity-requires c κs = ((name_sound c).1, (begin c).requires.0.sort_inside)
 
-rank-of-requires : tie.Need-rank_of-requires
-rank-of-requires c κs = ((arity_sound c).1, (begin (known c)).requires.0.sort_inside, (arity_sound c).0)
+rank_of-requires : tie.Need-rank_of-requires
+rank_of-requires c κs = ((arity_sound c).1, (begin (known c)).requires.0.sort_inside, (arity_sound c).0)
 
-returns : tie.Need-returns-in-Wrong
-returns c =
+returns-in-Wrong : tie.Need-returns-in-Wrong
+returns-in-Wrong c =
     let s = c.before.before.before.before.before in
     record {
       sound = tt;
       says = λ sn cs symbols r. subst (NameIs s.args.text.now sn cs) c.in-Wrong.is (c.function_name.ensures.says sn cs symbols r);
     }
 
-returns_2 : tie.Need-returns-in-Wrong-read_arity
-returns_2 c =
+returns-in-Wrong-read_arity : tie.Need-returns-in-Wrong-read_arity
+returns-in-Wrong-read_arity c =
     let arity = c.before in
     let known = arity.before in
     record {
@@ -81,8 +81,8 @@ returns_2 c =
           subst (ArityIs (text known) _ cs (name_of (text known) (name known))) c.in-Wrong-read_arity.is (arity.read_arity.ensures.says cs _ (taking known sn cs symbols r));
     }
 
-returns_3 : tie.Need-returns-in-Wrong-rank_of
-returns_3 c =
+returns-in-Wrong-rank_of : tie.Need-returns-in-Wrong-rank_of
+returns-in-Wrong-rank_of c =
     let ranked = c.before in
     let counted = ranked.before in
     record {
@@ -91,8 +91,8 @@ returns_3 c =
           subst (RankIs (text (known counted)) _ cs (name_of (text (known counted)) (name (known counted))) (arity counted)) c.in-Wrong-rank_of.is (ranked.rank_of.ensures.says cs _ (giving counted sn cs symbols r));
     }
 
-returns_4 : tie.Need-returns-in-Rank
-returns_4 c =
+returns-in-Rank : tie.Need-returns-in-Rank
+returns-in-Rank c =
     let ranked = c.before in
     let counted = ranked.before in
     let first = known counted in
@@ -119,13 +119,13 @@ read_function_spec =
     (λ c κs. search rules)
     (λ c. search rules)
     (λ c. search rules)
-    read-arity-requires
+    read_arity-requires
     (λ c. search rules)
     (λ c. search rules)
-    rank-of-requires
+    rank_of-requires
     (λ c. search rules)
     (λ c. search rules)
-    returns
-    returns_2
-    returns_3
-    returns_4)
+    returns-in-Wrong
+    returns-in-Wrong-read_arity
+    returns-in-Wrong-rank_of
+    returns-in-Rank)

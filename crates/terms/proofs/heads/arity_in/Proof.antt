@@ -3,23 +3,23 @@ use Rattle.terms.proofs.HeadedLaws.{term_byte, no_term_byte, formula_byte, no_fo
 use Rattle.terms.proofs.heads.arity_in.Statement.{statement}
 use Rattle.terms.proofs.heads.arity_in.Tie as tie
 
-returns : tie.Need-returns-then-byte-lt4
-returns c = term_byte _ c.args.formula (c.if-not-formula.true) c.if-byte-lt4.true
+returns-then-byte-lt4 : tie.Need-returns-then-byte-lt4
+returns-then-byte-lt4 c = term_byte _ c.args.formula (c.if-not-formula.true) c.if-byte-lt4.true
 
-returns_2 : tie.Need-returns-then-not-formula
-returns_2 c = no_term_byte _ c.args.formula (c.if-not-formula.true) c.if-byte-lt4.false
+returns-then-not-formula : tie.Need-returns-then-not-formula
+returns-then-not-formula c = no_term_byte _ c.args.formula (c.if-not-formula.true) c.if-byte-lt4.false
 
-returns_3 : tie.Need-returns-then-byte-lt16
-returns_3 c = no_formula_byte _ c.args.formula (c.if-not-formula.false) c.if-byte-lt16.true
+returns-then-byte-lt16 : tie.Need-returns-then-byte-lt16
+returns-then-byte-lt16 c = no_formula_byte _ c.args.formula (c.if-not-formula.false) c.if-byte-lt16.true
 
-returns_4 : tie.Need-returns
-returns_4 c = formula_byte _ c.args.formula (c.if-not-formula.false) c.if-byte-lt16.false c.requires
+returns : tie.Need-returns
+returns c = formula_byte _ c.args.formula (c.if-not-formula.false) c.if-byte-lt16.false c.requires
 
 pub arity_in_spec : {M : Type 1} → statement M
 arity_in_spec =
     tie.close
     (tie.spec
-    returns
-    returns_2
-    returns_3
-    returns_4)
+    returns-then-byte-lt4
+    returns-then-not-formula
+    returns-then-byte-lt16
+    returns)

@@ -8,16 +8,16 @@ use borrow.Author.Rules.{rules}
 use Rattle.terms.proofs.heads.bare.Statement.{statement}
 use Rattle.terms.proofs.heads.bare.Tie as tie
 
-returns : tie.Need-returns-in-At
-returns c =
+returns-in-At : tie.Need-returns-in-At
+returns-in-At c =
     let known = c in
     let core = known.before.before in
     let s = core.before.before.before.before in
     heads_bare_core s.args.text.now s.args.shelf.now s.args.declared (name_of s.args.text.now s.args.name) (sort_is s.args.formula) _ _
     (sym core.core.ensures ∙ ap found_of known.in-At.is) c.bare_core.ensures
 
-returns_2 : tie.Need-returns
-returns_2 c =
+returns : tie.Need-returns
+returns c =
     let told = c.before.before in
     let core = told.before in
     let s = core.before.before.before.before in
@@ -34,8 +34,8 @@ bare_spec =
     (λ c κs. search rules)
     (λ c. search rules)
     (λ c κs. search rules)
-    returns
+    returns-in-At
     (λ c. search rules)
     (λ c κs. search rules)
     (λ c κs. search rules)
-    returns_2)
+    returns)

@@ -6,25 +6,25 @@ use borrow.Author.Rules.{rules}
 use Rattle.terms.proofs.heads.bare_known.Statement.{statement}
 use Rattle.terms.proofs.heads.bare_known.Tie as tie
 
-returns : tie.Need-returns-in_default
-returns c = bare_unknown _ _ c.in_default.is
+returns-in_default : tie.Need-returns-in_default
+returns-in_default c = bare_unknown _ _ c.in_default.is
 
-arity-in-requires : tie.Need-arity_in-requires
-arity-in-requires c κs = subst KnownSmall c.in-Symbol.is c.requires
+arity_in-requires : tie.Need-arity_in-requires
+arity_in-requires c κs = subst KnownSmall c.in-Symbol.is c.requires
 
-returns_2 : tie.Need-returns-in_default-arity_in
-returns_2 c =
+returns-in_default-arity_in : tie.Need-returns-in_default-arity_in
+returns-in_default-arity_in c =
     let counted = c.before in
     bare_result _ _ _ _ counted.in-Symbol.is _ counted.arity_in.ensures c.in_default-arity_in.is
 
-returns_3 : tie.Need-returns-then-arity-ne0
-returns_3 c =
+returns-then-arity-ne0 : tie.Need-returns-then-arity-ne0
+returns-then-arity-ne0 c =
     let arity = c in
     let counted = arity.before.before in
     bare_arguments _ _ _ _ counted.in-Symbol.is _ counted.arity_in.ensures _ arity.in-At.is c.if-arity-ne0.true
 
-returns_4 : tie.Need-returns
-returns_4 c =
+returns : tie.Need-returns
+returns c =
     let arity = c in
     let counted = arity.before.before in
     let s = counted.before.before in
@@ -37,10 +37,10 @@ bare_known_spec =
     (tie.spec
     (λ c. search rules)
     (λ c. search rules)
-    returns
-    arity-in-requires
+    returns-in_default
+    arity_in-requires
     (λ c. search rules)
     (λ c. search rules)
-    returns_2
-    returns_3
-    returns_4)
+    returns-in_default-arity_in
+    returns-then-arity-ne0
+    returns)

@@ -7,16 +7,16 @@ use Rattle.terms.proofs.WantedLaws.{below_none, below_some}
 use Rattle.terms.proofs.heads.below.Statement.{statement}
 use Rattle.terms.proofs.heads.below.Tie as tie
 
-returns : tie.Need-returns-then-arity-seen
-returns c = below_none _ _ _ c.if-arity-seen.true
+returns-then-arity-seen : tie.Need-returns-then-arity-seen
+returns-then-arity-seen c = below_none _ _ _ c.if-arity-seen.true
 
-returns_2 : tie.Need-returns-then-formula
-returns_2 c =
+returns-then-formula : tie.Need-returns-then-formula
+returns-then-formula c =
     let a = c.args in
     ap (λ (f : Bool). some (sort_is f)) (sym c.if-formula.true) ∙ below_some (sort_is a.formula) _ _ c.if-arity-seen.false
 
-returns_3 : tie.Need-returns
-returns_3 c =
+returns : tie.Need-returns
+returns c =
     let a = c.args in
     ap (λ (f : Bool). some (sort_is f)) (sym c.if-formula.false) ∙ below_some (sort_is a.formula) _ _ c.if-arity-seen.false
 
@@ -24,6 +24,6 @@ pub below_spec : {M : Type 1} → statement M
 below_spec =
     tie.close
     (tie.spec
-    returns
-    returns_2
-    returns_3)
+    returns-then-arity-seen
+    returns-then-formula
+    returns)

@@ -6,31 +6,31 @@ use borrow.Author.Rules.{rules}
 use Rattle.terms.proofs.heads.bracketed_known.Statement.{statement}
 use Rattle.terms.proofs.heads.bracketed_known.Tie as tie
 
-returns : tie.Need-returns-in_default
-returns c = bracketed_unknown _ _ _ c.in_default.is
+returns-in_default : tie.Need-returns-in_default
+returns-in_default c = bracketed_unknown _ _ _ c.in_default.is
 
-arity-in-requires : tie.Need-arity_in-requires
-arity-in-requires c κs = subst KnownSmall c.in-Symbol.is c.requires
+arity_in-requires : tie.Need-arity_in-requires
+arity_in-requires c κs = subst KnownSmall c.in-Symbol.is c.requires
 
-returns_2 : tie.Need-returns-in_default-arity_in
-returns_2 c =
+returns-in_default-arity_in : tie.Need-returns-in_default-arity_in
+returns-in_default-arity_in c =
     let counted = c.before in
     bracketed_result _ _ _ _ counted.in-Symbol.is _ counted.arity_in.ensures c.in_default-arity_in.is _
 
-returns_3 : tie.Need-returns-then-arity-eq0
-returns_3 c =
+returns-then-arity-eq0 : tie.Need-returns-then-arity-eq0
+returns-then-arity-eq0 c =
     let arity = c in
     let counted = arity.before.before in
     bracketed_constant _ _ _ _ counted.in-Symbol.is _ counted.arity_in.ensures _ arity.in-At.is _ c.if-arity-eq0.true
 
-returns_4 : tie.Need-returns-then-not-inhabited
-returns_4 c =
+returns-then-not-inhabited : tie.Need-returns-then-not-inhabited
+returns-then-not-inhabited c =
     let arity = c in
     let counted = arity.before.before.before in
     bracketed_uninhabited _ _ _ _ counted.in-Symbol.is _ counted.arity_in.ensures _ arity.in-At.is _ c.if-arity-eq0.false (c.if-not-inhabited.true)
 
-returns_5 : tie.Need-returns
-returns_5 c =
+returns : tie.Need-returns
+returns c =
     let arity = c in
     let counted = arity.before.before.before in
     let s = counted.before.before in
@@ -43,11 +43,11 @@ bracketed_known_spec =
     (tie.spec
     (λ c. search rules)
     (λ c. search rules)
-    returns
-    arity-in-requires
+    returns-in_default
+    arity_in-requires
     (λ c. search rules)
     (λ c. search rules)
-    returns_2
-    returns_3
-    returns_4
-    returns_5)
+    returns-in_default-arity_in
+    returns-then-arity-eq0
+    returns-then-not-inhabited
+    returns)

@@ -12,14 +12,14 @@ use borrow.Author.Rules.{rules}
 use Rattle.terms.proofs.lists.apply.Statement.{statement}
 use Rattle.terms.proofs.lists.apply.Tie as tie
 
-returns : tie.Need-returns-then-formula
-returns c =
+returns-then-formula : tie.Need-returns-then-formula
+returns-then-formula c =
     let then = c.before.before.before.before in
     let a = then.args in
     performs_as (ap (λ (f : Bool). ended (declared (sort_is f) (a.number % 256)) (row_read a.row [])) (sym then.if-formula.true)) c.over.ensures
 
-returns_2 : tie.Need-returns-else-formula
-returns_2 c =
+returns-else-formula : tie.Need-returns-else-formula
+returns-else-formula c =
     let else = c.before.before.before.before in
     let a = else.args in
     performs_as (ap (λ (f : Bool). ended (declared (sort_is f) (a.number % 256)) (row_read a.row [])) (sym else.if-formula.false)) c.over-else-formula.ensures
@@ -32,6 +32,6 @@ apply_spec =
     (λ c κs. search rules)
     (λ c κs. search rules)
     (λ c. search rules)
-    returns
+    returns-then-formula
     (λ c. search rules)
-    returns_2)
+    returns-else-formula)

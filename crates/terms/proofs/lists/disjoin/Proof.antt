@@ -45,29 +45,29 @@ invariant_loop pending nodes₀ asked₀ i₀ nodes asked i = Joining pending no
 abbrev decreases_loop : tie.decreases-loop-i
 decreases_loop pending nodes₀ asked₀ i₀ nodes asked i = i
 
-loop_holds : tie.Need-loop-i-init invariant_loop decreases_loop
-loop_holds c = record { long = refl; within = omega arith; few = c.requires.1.few; small = c.requires.2.last_small; whole = λ r after p. p }
+loop-i-init : tie.Need-loop-i-init invariant_loop decreases_loop
+loop-i-init c = record { long = refl; within = omega arith; few = c.requires.1.few; small = c.requires.2.last_small; whole = λ r after p. p }
 
-sub-i : tie.Need-overflow_sub-i invariant_loop decreases_loop
-sub-i c = omega arith
+overflow_sub-i : tie.Need-overflow_sub-i invariant_loop decreases_loop
+overflow_sub-i c = omega arith
 
-shared-slice-read-wide : tie.Need-bounds-pending-i invariant_loop decreases_loop
-shared-slice-read-wide c =
+bounds-pending-i : tie.Need-bounds-pending-i invariant_loop decreases_loop
+bounds-pending-i c =
     let head = c.before.before.before in
     let s = head.before.before.before in
     omega (arith, head.loop-i.invariant.within, s.requires.2.waiting_small, s.requires.0)
 
-pair-requires : tie.Need-pair-asked-requires invariant_loop decreases_loop
-pair-requires c κs =
+pair-asked-requires : tie.Need-pair-asked-requires invariant_loop decreases_loop
+pair-asked-requires c κs =
     let head = c.before.before.before.before.before in
     let s = head.before.before.before in
     (record { long = head.loop-i.invariant.long ∙ s.requires.1.long; few = head.loop-i.invariant.few }, c.wide.ensures.1, head.loop-i.invariant.small)
 
-loop_less : tie.Need-loop-i-smaller invariant_loop decreases_loop
-loop_less c = omega arith
+loop-i-smaller : tie.Need-loop-i-smaller invariant_loop decreases_loop
+loop-i-smaller c = omega arith
 
-loop_again : tie.Need-loop-i-preserved invariant_loop decreases_loop
-loop_again c =
+loop-i-preserved : tie.Need-loop-i-preserved invariant_loop decreases_loop
+loop-i-preserved c =
     let paired = c.before.before in
     let wide = paired.before.before in
     let head = wide.before.before.before.before in
@@ -81,8 +81,8 @@ loop_again c =
           (performs_as (ap (λ (m : ℕ). ask (plain 5 m head.loop-i.asked.number 0)) wide.wide.ensures.0) paired.pair-asked.ensures) p);
     }
 
-same_length : tie.Need-shape_of-nodes invariant_loop decreases_loop
-same_length c = c.loop-i.invariant.long
+shape_of-nodes : tie.Need-shape_of-nodes invariant_loop decreases_loop
+shape_of-nodes c = c.loop-i.invariant.long
 
 returns : tie.Need-returns invariant_loop decreases_loop
 returns c =
@@ -99,12 +99,12 @@ disjoin_spec =
     (tie.spec
     invariant_loop
     decreases_loop
-    loop_holds
-    sub-i
-    shared-slice-read-wide
+    loop-i-init
+    overflow_sub-i
+    bounds-pending-i
     (λ c κs. search rules)
-    pair-requires
-    loop_less
-    loop_again
-    same_length
+    pair-asked-requires
+    loop-i-smaller
+    loop-i-preserved
+    shape_of-nodes
     returns)

@@ -20,21 +20,21 @@ module _ (row : lists.Row) (k : ℕ) where
   equated_later (suc zero) h g = absurd (g refl)
   equated_later (suc (suc n)) h g = refl
 
-returns : tie.Need-returns-then-row-eq0
-returns c =
+returns-then-row-eq0 : tie.Need-returns-then-row-eq0
+returns-then-row-eq0 c =
     let s = c.before.before.before in
     let a = s.args in
     performs_as (ap (λ m. equated m (row_read a.row []) a.number) (sym c.if-row-eq0.true))
     (stands_already a.number a.laying s.requires.0.few s.requires.2)
 
-returns_2 : tie.Need-returns-then-row-eq1
-returns_2 c =
+returns-then-row-eq1 : tie.Need-returns-then-row-eq1
+returns-then-row-eq1 c =
     let paired = c.before.before.before.before in
     let a = paired.args in
     performs_as (ap (λ m. equated m (row_read a.row []) a.number) (sym c.if-row-eq1.true)) paired.pair-equation.ensures
 
-returns_3 : tie.Need-returns
-returns_3 c =
+returns : tie.Need-returns
+returns c =
     let else = c.before.before.before.before.before in
     let paired = else.before.before.before.before in
     let first = paired.before.before in
@@ -48,10 +48,10 @@ pub equate_spec : {M : Type 1} → statement M
 equate_spec =
     tie.close
     (tie.spec
-    returns
+    returns-then-row-eq0
     (λ c κs. search rules)
     (λ c. search rules)
-    returns_2
+    returns-then-row-eq1
     (λ c κs. search rules)
     (λ c. search rules)
-    returns_3)
+    returns)

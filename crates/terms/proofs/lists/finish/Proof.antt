@@ -49,8 +49,8 @@ ended_else Head.Implies o row = absurd (miss joined_tags 6 tt o)
 ended_else Head.True o row = absurd (miss joined_tags 7 tt o)
 ended_else Head.False o row = absurd (miss joined_tags 8 tt o)
 
-returns : tie.Need-returns-in-Applied
-returns c =
+returns-in-Applied : tie.Need-returns-in-Applied
+returns-in-Applied c =
     let asked = c.before.before in
     let told = asked.before.before in
     let a = told.args in
@@ -58,8 +58,8 @@ returns c =
     finishes_as told.in-Applied.is
     (finishes (Head.Applied parts.number parts.formula parts.arity) a.row a.pending.now asked.apply.ensures (applied_ends parts.formula parts.number a.row a.pending.now))
 
-returns_2 : tie.Need-returns-in-Choice
-returns_2 c =
+returns-in-Choice : tie.Need-returns-in-Choice
+returns-in-Choice c =
     let asked = c.before.before in
     let told = asked.before.before in
     let a = told.args in
@@ -67,36 +67,36 @@ returns_2 c =
     finishes_as told.in-Choice.is
     (finishes (Head.Choice parts.formula) a.row a.pending.now asked.choose.ensures (λ s. choice_ends parts.formula a.row a.pending.now))
 
-returns_3 : tie.Need-returns-in-Not
-returns_3 c =
+returns-in-Not : tie.Need-returns-in-Not
+returns-in-Not c =
     let asked = c.before.before in
     let told = asked.before.before in
     let a = told.args in
     finishes_as told.in-Not.is (finishes Head.Not a.row a.pending.now asked.pair.ensures (λ s. refl))
 
-returns_4 : tie.Need-returns-in-Implies
-returns_4 c =
+returns-in-Implies : tie.Need-returns-in-Implies
+returns-in-Implies c =
     let asked = c.before.before in
     let told = asked.before.before in
     let a = told.args in
     finishes_as told.in-Implies.is (finishes Head.Implies a.row a.pending.now asked.disjoin.ensures (λ s. refl))
 
-returns_5 : tie.Need-returns-in-True
-returns_5 c =
+returns-in-True : tie.Need-returns-in-True
+returns-in-True c =
     let asked = c.before.before in
     let told = asked.before.before in
     let a = told.args in
     finishes_as told.in-True.is (finishes Head.True a.row a.pending.now asked.pair-in-True.ensures (λ s. refl))
 
-returns_6 : tie.Need-returns-in-False
-returns_6 c =
+returns-in-False : tie.Need-returns-in-False
+returns-in-False c =
     let asked = c.before.before in
     let told = asked.before.before in
     let a = told.args in
     finishes_as told.in-False.is (finishes Head.False a.row a.pending.now asked.pair-in-False.ensures (λ s. refl))
 
-returns-7 : tie.Need-returns-in_default
-returns-7 c =
+returns-in_default : tie.Need-returns-in_default
+returns-in_default c =
     let s = c.before.before.before in
     let a = s.args in
     finishes a.head a.row a.pending.now (stands_already a.row.joined a.laying s.requires.1.few s.requires.2.joined_small)
@@ -119,15 +119,15 @@ finish_spec =
     (λ c. search rules)
     (λ c κs. search rules)
     (λ c. search rules)
-    returns
+    returns-in-Applied
     (λ c. search rules)
-    returns_2
+    returns-in-Choice
     (λ c. search rules)
-    returns_3
+    returns-in-Not
     (λ c. search rules)
-    returns_4
+    returns-in-Implies
     (λ c. search rules)
-    returns_5
+    returns-in-True
     (λ c. search rules)
-    returns_6
-    returns-7)
+    returns-in-False
+    returns-in_default)

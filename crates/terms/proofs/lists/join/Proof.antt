@@ -34,29 +34,29 @@ joins_else Head.Implies o row k = refl
 joins_else Head.True o row k = refl
 joins_else Head.False o row k = refl
 
-returns : tie.Need-returns-in-Equals
-returns c =
+returns-in-Equals : tie.Need-returns-in-Equals
+returns-in-Equals c =
     let joined = c.before.before in
     let told = joined.before.before in
     let a = told.args in
     performs_as (ap (λ (h : Head). joins (head_read h) (row_read a.row []) a.number) (sym told.in-Equals.is)) joined.equate.ensures
 
-returns_2 : tie.Need-returns-in-And
-returns_2 c =
+returns-in-And : tie.Need-returns-in-And
+returns-in-And c =
     let joined = c.before.before in
     let told = joined.before.before in
     let a = told.args in
     performs_as (ap (λ (h : Head). joins (head_read h) (row_read a.row []) a.number) (sym told.in-And.is)) joined.join_by.ensures
 
-returns_3 : tie.Need-returns-in-Or
-returns_3 c =
+returns-in-Or : tie.Need-returns-in-Or
+returns-in-Or c =
     let joined = c.before.before in
     let told = joined.before.before in
     let a = told.args in
     performs_as (ap (λ (h : Head). joins (head_read h) (row_read a.row []) a.number) (sym told.in-Or.is)) joined.join_by-in-Or.ensures
 
-returns_4 : tie.Need-returns-in_default
-returns_4 c =
+returns-in_default : tie.Need-returns-in_default
+returns-in_default c =
     let s = c.before.before in
     let a = s.args in
     performs_as (joins_else a.head c.in_default.in_default-own.keys4 (row_read a.row []) a.number) (stands_already a.number a.laying s.requires.0.few s.requires.2)
@@ -72,9 +72,9 @@ join_spec =
     (λ c. search rules)
     (λ c κs. search rules)
     (λ c. search rules)
-    returns
+    returns-in-Equals
     (λ c. search rules)
-    returns_2
+    returns-in-And
     (λ c. search rules)
-    returns_3
-    returns_4)
+    returns-in-Or
+    returns-in_default)

@@ -18,15 +18,15 @@ module _ (row : lists.Row) (k : ℕ) where
   joined_later op zero h = absurd (h refl)
   joined_later op (suc n) h = refl
 
-returns : tie.Need-returns-then-row-eq0
-returns c =
+returns-then-row-eq0 : tie.Need-returns-then-row-eq0
+returns-then-row-eq0 c =
     let s = c.before.before.before in
     let a = s.args in
     performs_as (ap (λ m. joined_by a.op m (row_read a.row []) a.number) (sym c.if-row-eq0.true))
     (stands_already a.number a.laying s.requires.0.few s.requires.2)
 
-returns_2 : tie.Need-returns
-returns_2 c =
+returns : tie.Need-returns
+returns c =
     let else = c.before.before.before.before in
     let a = else.args in
     performs_as (joined_later (row_read a.row []) a.number a.op a.row.seen else.if-row-eq0.false) c.pair.ensures
@@ -35,7 +35,7 @@ pub join_by_spec : {M : Type 1} → statement M
 join_by_spec =
     tie.close
     (tie.spec
-    returns
+    returns-then-row-eq0
     (λ c κs. search rules)
     (λ c. search rules)
-    returns_2)
+    returns)

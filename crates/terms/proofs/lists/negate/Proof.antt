@@ -5,20 +5,20 @@ use borrow.Author.Rules.{rules}
 use Rattle.terms.proofs.lists.negate.Statement.{statement}
 use Rattle.terms.proofs.lists.negate.Tie as tie
 
-returns : tie.Need-returns-then-row-eq0
-returns c =
+returns-then-row-eq0 : tie.Need-returns-then-row-eq0
+returns-then-row-eq0 c =
     let s = c.before.before.before.before in
     nothing_done negating s.requires.2 s.requires.1.few (first_quiet c.if-row-eq0.true)
 
-returns_2 : tie.Need-returns-then-waiting-eq256
-returns_2 c =
+returns-then-waiting-eq256 : tie.Need-returns-then-waiting-eq256
+returns-then-waiting-eq256 c =
     let paired = c.before.before.before.before in
     let else = paired.before.before in
     let s = else.before.before.before.before in
     none_waits s.args.row s.args.pending.now s.args.nodes.now _ s.args.laying paired.pair-asked.result s.requires.2 else.if-row-eq0.false paired.pair-asked.ensures c.if-waiting-eq256.true
 
-returns_3 : tie.Need-returns
-returns_3 c =
+returns : tie.Need-returns
+returns c =
     let paired = c.before.before.before.before.before in
     let else = paired.before.before in
     let s = else.before.before.before.before in
@@ -30,13 +30,13 @@ pub negate_spec : {M : Type 1} → statement M
 negate_spec =
     tie.close
     (tie.spec
-    returns
+    returns-then-row-eq0
     (λ c κs. search rules)
     (λ c. search rules)
-    returns_2
+    returns-then-waiting-eq256
     (λ c. search rules)
     (λ c. search rules)
     (λ c. search rules)
     (λ c. search rules)
     (λ c. search rules)
-    returns_3)
+    returns)

@@ -30,17 +30,17 @@ module _ (row : Row) (number joined : ℕ) where
   placed_later : row.seen ≡ 3 → next_row row.seen row.first row.second row.third ≡ placed row number joined
   placed_later e = ap (λ (n : ℕ). next_row n row.first row.second row.third) e ∙ placed_told 3 e
 
-returns : tie.Need-returns-then-row-eq0
-returns c = placed_first c.args.row _ _ c.if-row-eq0.true
+returns-then-row-eq0 : tie.Need-returns-then-row-eq0
+returns-then-row-eq0 c = placed_first c.args.row _ _ c.if-row-eq0.true
 
-returns_2 : tie.Need-returns-then-row-eq1
-returns_2 c = placed_second c.args.row _ _ c.if-row-eq1.true
+returns-then-row-eq1 : tie.Need-returns-then-row-eq1
+returns-then-row-eq1 c = placed_second c.args.row _ _ c.if-row-eq1.true
 
-returns_3 : tie.Need-returns-then-row-eq2
-returns_3 c = placed_third c.args.row _ _ c.if-row-eq2.true
+returns-then-row-eq2 : tie.Need-returns-then-row-eq2
+returns-then-row-eq2 c = placed_third c.args.row _ _ c.if-row-eq2.true
 
-returns_4 : tie.Need-returns
-returns_4 c =
+returns : tie.Need-returns
+returns c =
     let s = c.before.before.before.before.before.before in
     let small = s.requires.seen_small in
     placed_later s.args.row _ _ (omega arith)
@@ -49,7 +49,7 @@ pub place_spec : {M : Type 1} → statement M
 place_spec =
     tie.close
     (tie.spec
-    returns
-    returns_2
-    returns_3
-    returns_4)
+    returns-then-row-eq0
+    returns-then-row-eq1
+    returns-then-row-eq2
+    returns)

@@ -33,16 +33,16 @@ quiet_else Head.Implies o row t = absurd (miss quiet_tags 6 tt o)
 quiet_else Head.True o row t = refl
 quiet_else Head.False o row t = refl
 
-returns : tie.Need-returns-in-Implies
-returns c =
+returns-in-Implies : tie.Need-returns-in-Implies
+returns-in-Implies c =
     let negated = c.before.before.before.before in
     let told = negated.before.before.before in
     let s = told.before.before.before in
     let a = s.args in
     rows_as (ap (λ (h : Head). prepared (head_read h)) (sym told.in-Implies.is)) negated.negate.ensures
 
-returns_2 : tie.Need-returns-in_default
-returns_2 c =
+returns-in_default : tie.Need-returns-in_default
+returns-in_default c =
     let s = c.before.before.before in
     nothing_done (prepared (head_read s.args.head)) s.requires.2 s.requires.1.few (λ k is t. quiet_else s.args.head c.in_default.in_default-own.keys2 k t)
 
@@ -54,5 +54,5 @@ prepare_spec =
     (λ c κs. search rules)
     (λ c. search rules)
     (λ c. search rules)
-    returns
-    returns_2)
+    returns-in-Implies
+    returns-in_default)

@@ -7,11 +7,11 @@ use borrow.Author.Rules.{rules}
 use Rattle.terms.proofs.nodes.append.Statement.{statement}
 use Rattle.terms.proofs.nodes.append.Tie as tie
 
-returns : tie.Need-returns-then-count-eq256
-returns c = let s = c.before.before in full (node_read s.args.node) s.args.nodes.now s.args.count s.requires.2 c.if-count-eq256.true
+returns-then-count-eq256 : tie.Need-returns-then-count-eq256
+returns-then-count-eq256 c = let s = c.before.before in full (node_read s.args.node) s.args.nodes.now s.args.count s.requires.2 c.if-count-eq256.true
 
-returns_2 : tie.Need-returns
-returns_2 c =
+returns : tie.Need-returns
+returns c =
     let s = c.before.before.before.before.before.before in
     let n = node_read s.args.node in
     let small = s.requires.1 in
@@ -24,7 +24,7 @@ pub append_spec : {M : Type 1} → statement M
 append_spec =
     tie.close
     (tie.spec
-    returns
+    returns-then-count-eq256
     (λ c. search rules)
     (λ c. search rules)
     (λ c. search rules)
@@ -32,4 +32,4 @@ append_spec =
     (λ c κs. search rules)
     (λ c. search rules)
     (λ c. search rules)
-    returns_2)
+    returns)

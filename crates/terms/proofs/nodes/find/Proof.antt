@@ -26,8 +26,8 @@ invariant_loop nodes count node i₀ i =
 abbrev decreases_loop : tie.decreases-loop-i
 decreases_loop nodes count node i₀ i = count - i
 
-loop_holds : tie.Need-loop-i-init invariant_loop decreases_loop
-loop_holds c = (omega arith, refl)
+loop-i-init : tie.Need-loop-i-init invariant_loop decreases_loop
+loop-i-init c = (omega arith, refl)
 
 -- at the loop's head: the table, and its node i
 module _ (head : tie.At-loop-i invariant_loop decreases_loop) where
@@ -54,34 +54,34 @@ module _ (head : tie.At-loop-i invariant_loop decreases_loop) where
         there : 0 + 8 * head.loop-i.i ≡ 8 * head.loop-i.i
         there = omega arith
 
-mul-same-node : tie.Need-overflow_mul-i invariant_loop decreases_loop
-mul-same-node c = omega (arith, c.requires.few)
+overflow_mul-i : tie.Need-overflow_mul-i invariant_loop decreases_loop
+overflow_mul-i c = omega (arith, c.requires.few)
 
-same-node-requires : tie.Need-same_node-requires invariant_loop decreases_loop
-same-node-requires c κs = omega (arith, c.requires.few, c.requires.long)
+same_node-requires : tie.Need-same_node-requires invariant_loop decreases_loop
+same_node-requires c κs = omega (arith, c.requires.few, c.requires.long)
 
-returns : tie.Need-returns-then-same_node invariant_loop decreases_loop
-returns c =
+returns-then-same_node : tie.Need-returns-then-same_node invariant_loop decreases_loop
+returns-then-same_node c =
     let head = c.before.before.before in
     sym (fails_here (other (asked head)) (table_of head) no_node head.loop-i.i (inside head (omega arith)) (tells head (omega arith) c.same_node.ensures ∙ ap not c.if-same_node.true))
     ∙ head.loop-i.invariant.1
 
-add-i : tie.Need-overflow_add-i invariant_loop decreases_loop
-add-i c = omega (arith, c.requires.few)
+overflow_add-i : tie.Need-overflow_add-i invariant_loop decreases_loop
+overflow_add-i c = omega (arith, c.requires.few)
 
-loop_less : tie.Need-loop-i-smaller invariant_loop decreases_loop
-loop_less c = omega arith
+loop-i-smaller : tie.Need-loop-i-smaller invariant_loop decreases_loop
+loop-i-smaller c = omega arith
 
-loop_again : tie.Need-loop-i-preserved invariant_loop decreases_loop
-loop_again c =
+loop-i-preserved : tie.Need-loop-i-preserved invariant_loop decreases_loop
+loop-i-preserved c =
     let head = c.before.before.before in (
       omega arith,
       sym (fails_later (other (asked head)) (table_of head) no_node head.loop-i.i (inside head (omega arith)) (tells head (omega arith) c.same_node.ensures ∙ ap not c.if-same_node.false))
           ∙ head.loop-i.invariant.1,
     )
 
-returns_2 : tie.Need-returns invariant_loop decreases_loop
-returns_2 c =
+returns : tie.Need-returns invariant_loop decreases_loop
+returns c =
     let head = c.before in
     sym (fails_nowhere (other (asked head)) (table_of head) head.loop-i.i (omega (arith, length_nodes_at head.args.nodes.now 0 head.args.count)))
     ∙ head.loop-i.invariant.1
@@ -92,11 +92,11 @@ find_spec =
     (tie.spec
     invariant_loop
     decreases_loop
-    loop_holds
-    mul-same-node
-    same-node-requires
-    returns
-    add-i
-    loop_less
-    loop_again
-    returns_2)
+    loop-i-init
+    overflow_mul-i
+    same_node-requires
+    returns-then-same_node
+    overflow_add-i
+    loop-i-smaller
+    loop-i-preserved
+    returns)

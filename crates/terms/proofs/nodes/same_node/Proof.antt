@@ -32,28 +32,28 @@ first_same_lem c = c.if-node-two_at.false ∙ c.two_at.ensures.0
 second_same : (c : tie.Else-node-two_at-2) → let s = c.before.before.before.before.before.before.before.before.before.before.before.before.before in (one s).b ≡ (other s).b
 second_same c = c.if-node-two_at-2.false ∙ c.two_at-2.ensures.0
 
-returns : tie.Need-returns-then-node-nodes
-returns c = let s = c.before.before.before.before in sym (head_differs (one s) (other s) (op_differs (one s) (other s) c.if-node-nodes.true))
+returns-then-node-nodes : tie.Need-returns-then-node-nodes
+returns-then-node-nodes c = let s = c.before.before.before.before in sym (head_differs (one s) (other s) (op_differs (one s) (other s) c.if-node-nodes.true))
 
-returns_2 : tie.Need-returns-then-node-nodes-2
-returns_2 c =
+returns-then-node-nodes-2 : tie.Need-returns-then-node-nodes-2
+returns-then-node-nodes-2 c =
     let s = c.before.before.before.before.before.before.before in
     sym (head_differs (one s) (other s) (symbol_decides (one s) (other s) c.if-node-nodes.false ∙ ne_eqb _ _ c.if-node-nodes-2.true))
 
-returns_3 : tie.Need-returns-then-node-two_at
-returns_3 c =
+returns-then-node-two_at : tie.Need-returns-then-node-two_at
+returns-then-node-two_at c =
     let else = c.before.before.before in
     let s = else.before.before.before.before.before.before.before in
     sym (a_differs (one s) (other s) (heads else) (λ e. c.if-node-two_at.true (e ∙ sym c.two_at.ensures.0)))
 
-returns_4 : tie.Need-returns-then-node-two_at-2
-returns_4 c =
+returns-then-node-two_at-2 : tie.Need-returns-then-node-two_at-2
+returns-then-node-two_at-2 c =
     let else = c.before.before.before in
     let s = else.before.before.before.before.before.before.before.before.before.before in
     sym (b_differs (one s) (other s) (heads else.before.before.before) (first_same_lem else) (λ e. c.if-node-two_at-2.true (e ∙ sym c.two_at-2.ensures.0)))
 
-returns_5 : tie.Need-returns
-returns_5 c =
+returns : tie.Need-returns
+returns c =
     let else = c.before.before in
     let s = else.before.before.before.before.before.before.before.before.before.before.before.before.before in
     ap (eqb (one s).c) c.two_at-3.ensures.0
@@ -64,16 +64,16 @@ same_node_spec =
     tie.close
     (tie.spec
     (λ c. search rules)
-    returns
+    returns-then-node-nodes
     (λ c. search rules)
     (λ c. search rules)
-    returns_2
-    (λ c. search rules)
-    (λ c κs. search rules)
-    returns_3
+    returns-then-node-nodes-2
     (λ c. search rules)
     (λ c κs. search rules)
-    returns_4
+    returns-then-node-two_at
     (λ c. search rules)
     (λ c κs. search rules)
-    returns_5)
+    returns-then-node-two_at-2
+    (λ c. search rules)
+    (λ c κs. search rules)
+    returns)

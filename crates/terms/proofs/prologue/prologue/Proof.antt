@@ -60,30 +60,30 @@ closed_by c =
     (exactly_on (text (sorted known)) st nought (exact closing (exact opening commanding)) (Step.At (behind known)) c.exact-counted.result (omega arith)
     c.exact-counted.ensures.0 (is_named known).0)
 
-sort-name-requires : tie.Need-sort_name-requires
-sort-name-requires c κs = (at_naming c, at_inside c)
+sort_name-requires : tie.Need-sort_name-requires
+sort_name-requires c κs = (at_naming c, at_inside c)
 
-exact-requires : tie.Need-exact-counted-requires
-exact-requires c κs = (is_named c.before.before).2
+exact-counted-requires : tie.Need-exact-counted-requires
+exact-counted-requires c κs = (is_named c.before.before).2
 
-returns : tie.Need-returns-in-Wrong
-returns c =
+returns-in-Wrong : tie.Need-returns-in-Wrong
+returns-in-Wrong c =
     let s = c.before.before.before in
     subst (ReachedBy s.args.text.now (goes start naming)) c.in-Wrong.is c.header-begun.ensures.0
 
-returns_2 : tie.Need-returns-in-Wrong-sort_name
-returns_2 c =
+returns-in-Wrong-sort_name : tie.Need-returns-in-Wrong-sort_name
+returns-in-Wrong-sort_name c =
     let known = c.before.before in
     subst (SortNamed (text known)) c.in-Wrong-sort_name.is c.sort_name.ensures
 
-returns_3 : tie.Need-returns-in-Wrong-closed
-returns_3 c =
+returns-in-Wrong-closed : tie.Need-returns-in-Wrong-closed
+returns-in-Wrong-closed c =
     let exacts = c.before in
     let known = exacts.before.before.before.before.before.before in
     subst (ReachedBy (text (sorted known)) (at_command (name_of (text (sorted known)) (sort known)) [])) c.in-Wrong-closed.is (closed_by exacts)
 
-returns_4 : tie.Need-returns-in-At-closed
-returns_4 c =
+returns-in-At-closed : tie.Need-returns-in-At-closed
+returns-in-At-closed c =
     let exacts = c.before in
     let known = exacts.before.before.before.before.before.before in (
       subst (ReachedBy (text (sorted known)) (at_command (name_of (text (sorted known)) (sort known)) [])) c.in-At-closed.is (closed_by exacts),
@@ -98,14 +98,14 @@ prologue_spec =
     (λ c κs. search rules)
     (λ c. search rules)
     (λ c. search rules)
-    sort-name-requires
+    sort_name-requires
     (λ c. search rules)
     (λ c. search rules)
-    exact-requires
+    exact-counted-requires
     (λ c κs. search rules)
     (λ c. search rules)
     (λ c. search rules)
-    returns
-    returns_2
-    returns_3
-    returns_4)
+    returns-in-Wrong
+    returns-in-Wrong-sort_name
+    returns-in-Wrong-closed
+    returns-in-At-closed)

@@ -6,11 +6,11 @@ use borrow.Author.Rules.{rules}
 use Rattle.terms.proofs.prologue.sort_free.Statement.{statement}
 use Rattle.terms.proofs.prologue.sort_free.Tie as tie
 
-returns : tie.Need-returns-then-same
-returns c = let name = c.args.name.now in sym (ap (λ (b : Bool). not (b || false) && not (solvers_own name)) (sym c.same.ensures ∙ c.if-same.true))
+returns-then-same : tie.Need-returns-then-same
+returns-then-same c = let name = c.args.name.now in sym (ap (λ (b : Bool). not (b || false) && not (solvers_own name)) (sym c.same.ensures ∙ c.if-same.true))
 
-returns_2 : tie.Need-returns
-returns_2 c =
+returns : tie.Need-returns
+returns c =
     let else = c.before in
     let name = else.args.name.now in
     ap not c.solvers_own.ensures
@@ -21,6 +21,6 @@ sort_free_spec =
     tie.close
     (tie.spec
     (λ c κs. search rules)
-    returns
+    returns-then-same
     (λ c κs. search rules)
-    returns_2)
+    returns)

@@ -13,8 +13,8 @@ use borrow.Author.Rules.{rules}
 use Rattle.terms.proofs.prologue.sort_name.Statement.{statement}
 use Rattle.terms.proofs.prologue.sort_name.Tie as tie
 
-returns : tie.Need-returns-in_default
-returns c =
+returns-in_default : tie.Need-returns-in_default
+returns-in_default c =
     let s = c.before.before.before in
     let lexed = c.next-token in
     no_sort_lem s.args.text.now s.args.at s.requires.0 lexed.result lexed.ensures (no_symbol_there s.args.text.now lexed.result.lexeme c.in_default.in_default-own.keys2)
@@ -41,11 +41,11 @@ module _ (c : tie.In-Symbol) where
   reads : lexeme_read text c.next-token.result.lexeme ≡ some (symbol (name_of text found))
   reads = ap (lexeme_read text) is_symbol
 
-sub-sort-free : tie.Need-slice_bounds-sort_free-count
-sub-sort-free c = (inside c).0
+slice_bounds-sort_free-count : tie.Need-slice_bounds-sort_free-count
+slice_bounds-sort_free-count c = (inside c).0
 
-returns_2 : tie.Need-returns-then-sort_free
-returns_2 c =
+returns-then-sort_free : tie.Need-returns-then-sort_free
+returns-then-sort_free c =
     let known = c.before.before.before in
     let s = begin known in
     let lexed = known.next-token in (
@@ -54,8 +54,8 @@ returns_2 c =
       lexed.ensures.inside,
     )
 
-returns_3 : tie.Need-returns
-returns_3 c =
+returns : tie.Need-returns
+returns c =
     let known = c.before.before.before in
     let s = begin known in
     let lexed = known.next-token in
@@ -67,10 +67,10 @@ sort_name_spec =
     (tie.spec
     (λ c κs. search rules)
     (λ c. search rules)
-    returns
-    sub-sort-free
+    returns-in_default
+    slice_bounds-sort_free-count
     (λ c. search rules)
     (λ c. search rules)
     (λ c κs. search rules)
-    returns_2
-    returns_3)
+    returns-then-sort_free
+    returns)

@@ -46,27 +46,27 @@ module _ (c : tie.In-Symbol) where
   differs : (name : List ℕ) {r : Bool} → r ≡ same_bytes (name_of text found) name → r ≡ false → is_token (symbol name) (lexeme_read text start.args.lexeme) ≡ false
   differs name p q = ap (is_token (symbol name)) reads ∙ same_swapped (symbol name) (symbol (name_of text found)) ∙ sym p ∙ q
 
-sub_same : tie.Need-slice_bounds-same-count
-sub_same c = (inside c).0
+slice_bounds-same-count : tie.Need-slice_bounds-same-count
+slice_bounds-same-count c = (inside c).0
 
-returns : tie.Need-returns-then-same
-returns c =
+returns-then-same : tie.Need-returns-then-same
+returns-then-same c =
     let known = c.before.before.before.before in
     reads known ∙ ap (λ (n : List ℕ). some (symbol n)) (same_bytes_lem (name_of (text known) (found known)) _ (sym c.same.ensures ∙ c.if-same.true))
 
-sub-same-3 : tie.Need-slice_bounds-same-count-in-Symbol-2
-sub-same-3 c = (inside c.before.before.before.before).0
+slice_bounds-same-count-in-Symbol-2 : tie.Need-slice_bounds-same-count-in-Symbol-2
+slice_bounds-same-count-in-Symbol-2 c = (inside c.before.before.before.before).0
 
-returns_2 : tie.Need-returns-then-same-2
-returns_2 c =
+returns-then-same-2 : tie.Need-returns-then-same-2
+returns-then-same-2 c =
     let else = c.before.before.before.before.before in
     let known = else.before.before.before.before in (
       reads known ∙ ap (λ (n : List ℕ). some (symbol n)) (same_bytes_lem (name_of (text known) (found known)) BOOL (sym c.same-in-Symbol.ensures ∙ c.if-same-2.true)),
       differs known _ else.same.ensures else.if-same.false,
     )
 
-returns_4 : tie.Need-returns-else-same-2
-returns_4 c =
+returns-else-same-2 : tie.Need-returns-else-same-2
+returns-else-same-2 c =
     let else = c.before.before.before.before.before in
     let known = else.before.before.before.before in (
       ap (is_token closing) (reads known),
@@ -74,8 +74,8 @@ returns_4 c =
       differs known BOOL c.same-in-Symbol.ensures c.if-same-2.false,
     )
 
-returns_5 : tie.Need-returns-in_default
-returns_5 c =
+returns-in_default : tie.Need-returns-in_default
+returns-in_default c =
     let s = c.before.before in
     let no_closing : tag_of s.args.lexeme ≡ 2 → ⊥ = λ e. miss OTHERS 2 tt (subst (OneOf OTHERS) e c.in_default.in_default-own.keys3) in
     let no_symbol_lem : tag_of s.args.lexeme ≡ 5 → ⊥ = λ e. miss OTHERS 5 tt (subst (OneOf OTHERS) e c.in_default.in_default-own.keys3) in (
@@ -90,19 +90,19 @@ part_of_spec =
     (tie.spec
     (λ c. search rules)
     (λ c. search rules)
-    sub_same
+    slice_bounds-same-count
     (λ c. search rules)
     (λ c. search rules)
     (λ c. search rules)
     (λ c. search rules)
     (λ c. search rules)
     (λ c κs. search rules)
-    returns
-    sub-same-3
+    returns-then-same
+    slice_bounds-same-count-in-Symbol-2
     (λ c. search rules)
     (λ c. search rules)
     (λ c κs. search rules)
-    returns_2
+    returns-then-same-2
     (λ c. search rules)
-    returns_4
-    returns_5)
+    returns-else-same-2
+    returns-in_default)

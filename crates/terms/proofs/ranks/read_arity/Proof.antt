@@ -46,19 +46,19 @@ sort_is_lem : (c : tie.After-next-token invariant_loop decreases_loop) (p : Part
     → lexeme_read text c.next-token.result.lexeme ≡ some (symbol (name_of text c.args.sort))
 sort_is_lem c p e is = subst (PartIs _ _ _) e is
 
-loop_holds : tie.Need-loop-arity-init invariant_loop decreases_loop
-loop_holds c = (omega arith, omega arith, omega arith, λ cs name r. r)
+loop-arity-init : tie.Need-loop-arity-init invariant_loop decreases_loop
+loop-arity-init c = (omega arith, omega arith, omega arith, λ cs name r. r)
 
-next_requires : tie.Need-next-token-requires invariant_loop decreases_loop
-next_requires c κs = omega arith
+next-token-requires : tie.Need-next-token-requires invariant_loop decreases_loop
+next-token-requires c κs = omega arith
 
-part-of-requires : tie.Need-part_of-requires invariant_loop decreases_loop
-part-of-requires c κs =
+part_of-requires : tie.Need-part_of-requires invariant_loop decreases_loop
+part_of-requires c κs =
     let s = c.before.before.before in
     (lexeme_fits s.args.text.now c.loop-arity.at c.next-token.result c.next-token.result.lexeme c.next-token.ensures.fits, s.requires.1)
 
-returns : tie.Need-returns-in-Closing invariant_loop decreases_loop
-returns c =
+returns-in-Closing : tie.Need-returns-in-Closing invariant_loop decreases_loop
+returns-in-Closing c =
     let part = c.before in
     let lexed = part.next-token in
     let head = part.before.before in
@@ -69,8 +69,8 @@ returns c =
       says = λ cs name r. arity_closes text _ cs name head.loop-arity.arity head.loop-arity.at lexed.result lexed.ensures (head.loop-arity.invariant.3 cs name r) is;
     }
 
-returns_2 : tie.Need-returns-then-arity-eq3 invariant_loop decreases_loop
-returns_2 c =
+returns-then-arity-eq3 : tie.Need-returns-then-arity-eq3 invariant_loop decreases_loop
+returns-then-arity-eq3 c =
     let part = c.before.before in
     let lexed = part.next-token in
     let head = part.before.before in
@@ -82,11 +82,11 @@ returns_2 c =
           arity_wrong text _ cs name head.loop-arity.arity head.loop-arity.at lexed.result lexed.ensures (head.loop-arity.invariant.3 cs name r) (ap (is_token closing) is) (inr (omega arith));
     }
 
-add-arity : tie.Need-overflow_add-arity invariant_loop decreases_loop
-add-arity c = omega arith
+overflow_add-arity : tie.Need-overflow_add-arity invariant_loop decreases_loop
+overflow_add-arity c = omega arith
 
-loop_less : tie.Need-loop-arity-smaller invariant_loop decreases_loop
-loop_less c =
+loop-arity-smaller : tie.Need-loop-arity-smaller invariant_loop decreases_loop
+loop-arity-smaller c =
     let part = c.before.before in
     let lexed = part.next-token in
     let head = part.before.before in
@@ -94,8 +94,8 @@ loop_less c =
     let on = goes_on text head.loop-arity.at lexed.result lexed.result.lexeme lexed.ensures.fits (sort_is_lem part.before part.part_of.result c.in-Sort.is part.part_of.ensures) in
     omega (arith, lexed.ensures.inside)
 
-loop_again : tie.Need-loop-arity-preserved invariant_loop decreases_loop
-loop_again c =
+loop-arity-preserved : tie.Need-loop-arity-preserved invariant_loop decreases_loop
+loop-arity-preserved c =
     let part = c.before.before in
     let lexed = part.next-token in
     let head = part.before.before in
@@ -107,8 +107,8 @@ loop_again c =
       λ cs name r. sort_taken text _ cs name head.loop-arity.arity head.loop-arity.at lexed.result lexed.ensures (head.loop-arity.invariant.3 cs name r) is (omega arith),
     )
 
-returns_3 : tie.Need-returns-in-Bool invariant_loop decreases_loop
-returns_3 c =
+returns-in-Bool : tie.Need-returns-in-Bool invariant_loop decreases_loop
+returns-in-Bool c =
     let part = c.before in
     let lexed = part.next-token in
     let head = part.before.before in
@@ -126,14 +126,14 @@ read_arity_spec =
     (tie.spec
     invariant_loop
     decreases_loop
-    loop_holds
-    next_requires
-    part-of-requires
+    loop-arity-init
+    next-token-requires
+    part_of-requires
     (λ c. search rules)
-    returns
+    returns-in-Closing
     (λ c. search rules)
-    returns_2
-    add-arity
-    loop_less
-    loop_again
-    returns_3)
+    returns-then-arity-eq3
+    overflow_add-arity
+    loop-arity-smaller
+    loop-arity-preserved
+    returns-in-Bool)

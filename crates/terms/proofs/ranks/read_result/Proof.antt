@@ -27,11 +27,11 @@ neither text l sn Part.Sort o e = absurd (miss (0 ∷ 3 ∷ []) 1 tt o)
 neither text l sn Part.Bool o e = absurd (miss (0 ∷ 3 ∷ []) 2 tt o)
 neither text l sn Part.Other o e = (e.1, e.2)
 
-part-of-requires : tie.Need-part_of-requires
-part-of-requires c κs = let s = c.before.before in (lexeme_fits s.args.text.now s.args.at c.next-token.result c.next-token.result.lexeme c.next-token.ensures.fits, s.requires.1)
+part_of-requires : tie.Need-part_of-requires
+part_of-requires c κs = let s = c.before.before in (lexeme_fits s.args.text.now s.args.at c.next-token.result c.next-token.result.lexeme c.next-token.ensures.fits, s.requires.1)
 
-returns : tie.Need-returns-in-Sort
-returns c =
+returns-in-Sort : tie.Need-returns-in-Sort
+returns-in-Sort c =
     let part = c.before in
     let lexed = part.next-token in
     let s = part.before.before.before in
@@ -41,8 +41,8 @@ returns c =
       says = λ cs name k r. sort_given s.args.text.now _ cs name k s.args.at lexed.result lexed.ensures r is;
     }
 
-returns_2 : tie.Need-returns-in-Bool
-returns_2 c =
+returns-in-Bool : tie.Need-returns-in-Bool
+returns-in-Bool c =
     let part = c.before in
     let lexed = part.next-token in
     let s = part.before.before.before in
@@ -52,8 +52,8 @@ returns_2 c =
       says = λ cs name k r. bool_given s.args.text.now _ cs name k s.args.at lexed.result lexed.ensures r is.0 is.1;
     }
 
-returns_3 : tie.Need-returns-in-Closing
-returns_3 c =
+returns-in-Closing : tie.Need-returns-in-Closing
+returns-in-Closing c =
     let part = c.before in
     let lexed = part.next-token in
     let s = part.before.before.before in
@@ -68,9 +68,9 @@ read_result_spec =
     tie.close
     (tie.spec
     (λ c κs. search rules)
-    part-of-requires
+    part_of-requires
     (λ c. search rules)
     (λ c. search rules)
-    returns
-    returns_2
-    returns_3)
+    returns-in-Sort
+    returns-in-Bool
+    returns-in-Closing)

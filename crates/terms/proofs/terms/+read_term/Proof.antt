@@ -134,11 +134,11 @@ module _ (t : ℕ) where
       follows_for : NextIs (text known) F.next-following.result.lexeme wanted_now F.follows.result
       follows_for = F.follows.ensures.says (text known) (symbols_in cs) begun.arity_is (length (trees_of inside_for.args)) inside_for.counted
 
-  bare_term_requires : lts.Need-bare_term-requires (claims t) (at_measure t) read-term.Post invariant_loop decreases_loop
-  bare_term_requires c κs = let s = c.before.before.before.before.before in s.requires.1.0
+  bare_term-requires : lts.Need-bare_term-requires (claims t) (at_measure t) read-term.Post invariant_loop decreases_loop
+  bare_term-requires c κs = let s = c.before.before.before.before.before in s.requires.1.0
 
-  returns : lts.Need-returns-in_default (claims t) (at_measure t) read-term.Post invariant_loop decreases_loop
-  returns c =
+  returns-in_default : lts.Need-returns-in_default (claims t) (at_measure t) read-term.Post invariant_loop decreases_loop
+  returns-in_default c =
       let s = c.before.before.before.before.before.before.before.before in
       let bare = c.bare_term.ensures in
       record {
@@ -147,8 +147,8 @@ module _ (t : ℕ) where
             bare.says s.args.levels (no_opening s.args.text.now s.args.token.lexeme c.in_default.in_default-own.keys2) sn cs w row outer at wanted;
       }
 
-  returns_2 : lts.Need-returns-then-levels-eq0 (claims t) (at_measure t) read-term.Post invariant_loop decreases_loop
-  returns_2 c =
+  returns-then-levels-eq0 : lts.Need-returns-then-levels-eq0 (claims t) (at_measure t) read-term.Post invariant_loop decreases_loop
+  returns-then-levels-eq0 c =
       let s = c.before.before.before.before.before in
       record {
         sound = tt;
@@ -157,16 +157,16 @@ module _ (t : ℕ) where
             (ap (lexeme_read s.args.text.now) c.in-Opening.is) (let k = wanted.level in let z = c.if-levels-eq0.true in omega arith);
       }
 
-  next_requires : lts.Need-next-named-requires (claims t) (at_measure t) read-term.Post invariant_loop decreases_loop
-  next_requires c κs = c.requires.1.0.token_inside
+  next-named-requires : lts.Need-next-named-requires (claims t) (at_measure t) read-term.Post invariant_loop decreases_loop
+  next-named-requires c κs = c.requires.1.0.token_inside
 
-  head_at_requires : lts.Need-head_at-requires (claims t) (at_measure t) read-term.Post invariant_loop decreases_loop
-  head_at_requires c κs =
+  head_at-requires : lts.Need-head_at-requires (claims t) (at_measure t) read-term.Post invariant_loop decreases_loop
+  head_at-requires c κs =
       let s = c.before.before.before.before.before.before in
       (s.requires.1.0.declared_sound, lexeme_fits s.args.text.now s.args.token.next c.next-named.result c.next-named.result.lexeme c.next-named.ensures.fits)
 
-  returns_3 : lts.Need-returns-in_default-head_at (claims t) (at_measure t) read-term.Post invariant_loop decreases_loop
-  returns_3 c =
+  returns-in_default-head_at : lts.Need-returns-in_default-head_at (claims t) (at_measure t) read-term.Post invariant_loop decreases_loop
+  returns-in_default-head_at c =
       let tried = c.before in
       let s = tried.before.before.before.before.before.before.before in
       record {
@@ -179,8 +179,8 @@ module _ (t : ℕ) where
             (subst (HeadIs (symbols_in cs) (sort_is s.args.formula) _) c.in_default-head_at.is (tried.head_at.ensures.head sn cs wanted.symbols));
       }
 
-  loop_holds : lts.Need-loop-pending-init (claims t) (at_measure t) read-term.Post invariant_loop decreases_loop
-  loop_holds c =
+  loop-pending-init : lts.Need-loop-pending-init (claims t) (at_measure t) read-term.Post invariant_loop decreases_loop
+  loop-pending-init c =
       let known = c.before in
       let s = begin known in
       record {
@@ -192,16 +192,16 @@ module _ (t : ℕ) where
         says = λ sn cs o outer begun. arguments_begin (head known) begun (c.empty-row.ensures.0 _);
       }
 
-  next_requires_2 : lts.Need-next-following-requires (claims t) (at_measure t) read-term.Post invariant_loop decreases_loop
-  next_requires_2 c κs = c.loop-pending.invariant.inside
+  next-following-requires : lts.Need-next-following-requires (claims t) (at_measure t) read-term.Post invariant_loop decreases_loop
+  next-following-requires c κs = c.loop-pending.invariant.inside
 
-  same_length_2 : lts.Need-shape_of-nodes-in-Wrong (claims t) (at_measure t) read-term.Post invariant_loop decreases_loop
-  same_length_2 c =
+  shape_of-nodes-in-Wrong : lts.Need-shape_of-nodes-in-Wrong (claims t) (at_measure t) read-term.Post invariant_loop decreases_loop
+  shape_of-nodes-in-Wrong c =
       let F = c.before in
       F.loop-pending.invariant.fits.long ∙ sym (begin (known F)).requires.1.0.table_fits.long
 
-  returns_4 : lts.Need-returns-in-Wrong (claims t) (at_measure t) read-term.Post invariant_loop decreases_loop
-  returns_4 c =
+  returns-in-Wrong : lts.Need-returns-in-Wrong (claims t) (at_measure t) read-term.Post invariant_loop decreases_loop
+  returns-in-Wrong c =
       let follows = c.before in
       record {
         sound = tt;
@@ -210,19 +210,19 @@ module _ (t : ℕ) where
             (subst (NextIs (text (known follows)) _ _) c.in-Wrong.is (follows_for follows (begun_for (known follows) wanted)));
       }
 
-  finish_requires : lts.Need-finish-asked-requires (claims t) (at_measure t) read-term.Post invariant_loop decreases_loop
-  finish_requires c κs =
+  finish-asked-requires : lts.Need-finish-asked-requires (claims t) (at_measure t) read-term.Post invariant_loop decreases_loop
+  finish-asked-requires c κs =
       let loop = c.before.before.before.before.before in
       (loop.loop-pending.invariant.long, loop.loop-pending.invariant.fits, loop.loop-pending.invariant.small)
 
-  same_length_3 : lts.Need-shape_of-nodes-in-End (claims t) (at_measure t) read-term.Post invariant_loop decreases_loop
-  same_length_3 c =
+  shape_of-nodes-in-End : lts.Need-shape_of-nodes-in-End (claims t) (at_measure t) read-term.Post invariant_loop decreases_loop
+  shape_of-nodes-in-End c =
       let finished = c.before.before in
       let F = finished.before.before.before.before in
       finished.finish-asked.auto.nodes ∙ F.loop-pending.invariant.fits.long ∙ sym (begin (known F)).requires.1.0.table_fits.long
 
-  returns_5 : lts.Need-returns-in-End (claims t) (at_measure t) read-term.Post invariant_loop decreases_loop
-  returns_5 c =
+  returns-in-End : lts.Need-returns-in-End (claims t) (at_measure t) read-term.Post invariant_loop decreases_loop
+  returns-in-End c =
       let finished = c.before.before in
       let follows = finished.before.before.before.before in
       let loop = follows.before.before in
@@ -236,8 +236,8 @@ module _ (t : ℕ) where
             (subst (NextIs (text (known follows)) _ _) finished.in-End.is (follows_for follows (begun_for (known follows) wanted))) ends;
       }
 
-  prepare_requires : lts.Need-prepare-ready-requires (claims t) (at_measure t) read-term.Post invariant_loop decreases_loop
-  prepare_requires c κs =
+  prepare-ready-requires : lts.Need-prepare-ready-requires (claims t) (at_measure t) read-term.Post invariant_loop decreases_loop
+  prepare-ready-requires c κs =
       let loop = c.before.before.before.before.before in
       (loop.loop-pending.invariant.long, loop.loop-pending.invariant.fits, loop.loop-pending.invariant.small)
 
@@ -258,11 +258,11 @@ module _ (t : ℕ) where
     long_now : length P.prepare-ready.new.pending ≡ 256
     long_now = P.prepare-ready.auto.pending ∙ followed.loop-pending.invariant.long
 
-  sub_read_term : lts.Need-overflow_sub-levels (claims t) (at_measure t) read-term.Post invariant_loop decreases_loop
-  sub_read_term c = let z = (known (followed c.before.before.before.before)).if-levels-eq0.false in omega arith
+  overflow_sub-levels : lts.Need-overflow_sub-levels (claims t) (at_measure t) read-term.Post invariant_loop decreases_loop
+  overflow_sub-levels c = let z = (known (followed c.before.before.before.before)).if-levels-eq0.false in omega arith
 
-  read_term_requires : lts.Need-read_term-requires (claims t) (at_measure t) read-term.Post invariant_loop decreases_loop
-  read_term_requires c κs =
+  read_term-requires : lts.Need-read_term-requires (claims t) (at_measure t) read-term.Post invariant_loop decreases_loop
+  read_term-requires c κs =
       let prepared = c.before.before.before.before.before in
       let F = followed prepared in
       let s = begin (known F) in
@@ -303,13 +303,13 @@ module _ (t : ℕ) where
           R.read_term.ensures.says sn cs (wanted_now (followed ready) begun) (inside_for (followed ready) begun).args (o ∷ outer) (followed ready).loop-pending.at
           (argument_wanted (head (known (followed ready))) begun (inside_for (followed ready) begun) (followed ready).next-following.result (followed ready).next-following.ensures ready.prepare-ready.ensures argument_for)
 
-  same_length_4 : lts.Need-shape_of-nodes-in-Refused (claims t) (at_measure t) read-term.Post invariant_loop decreases_loop
-  same_length_4 c =
+  shape_of-nodes-in-Refused : lts.Need-shape_of-nodes-in-Refused (claims t) (at_measure t) read-term.Post invariant_loop decreases_loop
+  shape_of-nodes-in-Refused c =
       let R = c.before.before.before in
       inner_long R ∙ sym (begin (known (followed (ready R)))).requires.1.0.table_fits.long
 
-  returns_6 : lts.Need-returns-in-Refused (claims t) (at_measure t) read-term.Post invariant_loop decreases_loop
-  returns_6 c =
+  returns-in-Refused : lts.Need-returns-in-Refused (claims t) (at_measure t) read-term.Post invariant_loop decreases_loop
+  returns-in-Refused c =
       let R = c.before.before.before in
       record { sound = tt; says = λ sn cs w row outer at wanted. subst (Says R (begun_for (known (followed (ready R))) wanted)) c.in-Refused.is (inner_says R (begun_for (known (followed (ready R))) wanted)) }
 
@@ -341,16 +341,16 @@ module _ (t : ℕ) where
         let on = goes_on (text (known (followed (ready call)))) loops.loop-pending.at following.result following.result.lexeme following.ensures.fits some_token.1 in
         omega (arith, read_sound.0)
 
-  add_requires : lts.Need-add-added-requires (claims t) (at_measure t) read-term.Post invariant_loop decreases_loop
-  add_requires c κs =
+  add-added-requires : lts.Need-add-added-requires (claims t) (at_measure t) read-term.Post invariant_loop decreases_loop
+  add-added-requires c κs =
       let A = c.before.before.before in
       (record { long = inner_long (call A); few = (read_sound A).3 }, (ready (call A)).prepare-ready.ensures.small, (read_sound A).2)
 
-  loop_less : lts.Need-loop-pending-smaller (claims t) (at_measure t) read-term.Post invariant_loop decreases_loop
-  loop_less c = let A = c.before.before.before.before.before.before.before.before.before in omega (arith, further A, (read_sound A).1, (loops A).loop-pending.invariant.inside)
+  loop-pending-smaller : lts.Need-loop-pending-smaller (claims t) (at_measure t) read-term.Post invariant_loop decreases_loop
+  loop-pending-smaller c = let A = c.before.before.before.before.before.before.before.before.before in omega (arith, further A, (read_sound A).1, (loops A).loop-pending.invariant.inside)
 
-  loop_again : lts.Need-loop-pending-preserved (claims t) (at_measure t) read-term.Post invariant_loop decreases_loop
-  loop_again c =
+  loop-pending-preserved : lts.Need-loop-pending-preserved (claims t) (at_measure t) read-term.Post invariant_loop decreases_loop
+  loop-pending-preserved c =
       let added = c.before.before.before.before.before in
       let A = c.before.before.before.before.before.before.before.before.before in
       let R = call A in
@@ -380,37 +380,37 @@ pub +read_term_spec : {M : Type 1} → statement M
     invariant_loop
     decreases_loop
     (λ c. search rules)
-    (bare_term_requires t)
+    (bare_term-requires t)
     (λ c. search rules)
-    (returns t)
-    (returns_2 t)
-    (next_requires t)
-    (head_at_requires t)
+    (returns-in_default t)
+    (returns-then-levels-eq0 t)
+    (next-named-requires t)
+    (head_at-requires t)
     (λ c. search rules)
     (λ c. search rules)
-    (returns_3 t)
+    (returns-in_default-head_at t)
     (λ c κs. search rules)
-    (loop_holds t)
-    (next_requires_2 t)
+    (loop-pending-init t)
+    (next-following-requires t)
     (λ c κs. search rules)
     (λ c. search rules)
-    (same_length_2 t)
-    (returns_4 t)
+    (shape_of-nodes-in-Wrong t)
+    (returns-in-Wrong t)
     (λ c. search rules)
     (λ c. search rules)
-    (finish_requires t)
-    (same_length_3 t)
-    (returns_5 t)
+    (finish-asked-requires t)
+    (shape_of-nodes-in-End t)
+    (returns-in-End t)
     (λ c. search rules)
     (λ c. search rules)
-    (prepare_requires t)
-    (sub_read_term t)
-    (read_term_requires t)
+    (prepare-ready-requires t)
+    (overflow_sub-levels t)
+    (read_term-requires t)
     (λ c. search rules)
-    (same_length_4 t)
-    (returns_6 t)
+    (shape_of-nodes-in-Refused t)
+    (returns-in-Refused t)
     (λ c. search rules)
-    (add_requires t)
+    (add-added-requires t)
     (λ c κs. search rules)
-    (loop_less t)
-    (loop_again t))
+    (loop-pending-smaller t)
+    (loop-pending-preserved t))

@@ -37,8 +37,8 @@ module _ (c : tie.In-Symbol) where
   reads : lexeme_read text begin.args.token.lexeme ≡ some (symbol (name_of text found))
   reads = ap (lexeme_read text) is_symbol
 
-returns : tie.Need-returns-in_default
-returns c =
+returns-in_default : tie.Need-returns-in_default
+returns-in_default c =
     let s = c.before.before.before.before in
     let t = s.args.token in
     record {
@@ -51,8 +51,8 @@ returns c =
 bare-requires : tie.Need-bare-requires
 bare-requires c κs = ((begin c).requires.declared_sound, inside c)
 
-returns_2 : tie.Need-returns-in_default-bare
-returns_2 c =
+returns-in_default-bare : tie.Need-returns-in_default-bare
+returns-in_default-bare c =
     let tried = c.before in
     let known = tried.before in
     let t = (begin known).args.token in
@@ -63,8 +63,8 @@ returns_2 c =
           (subst (HeadedIs (symbols_in cs) _) c.in_default-bare.is (tried.bare.ensures.head sn cs wanted.symbols));
     }
 
-returns_3 : tie.Need-returns
-returns_3 c =
+returns : tie.Need-returns
+returns c =
     let finished = c.before.before in
     let named = finished.before.before.before.before in
     let tried = named.before in
@@ -82,13 +82,13 @@ bare_term_spec =
     tie.close
     (tie.spec
     (λ c. search rules)
-    returns
+    returns-in_default
     bare-requires
     (λ c. search rules)
     (λ c. search rules)
-    returns_2
+    returns-in_default-bare
     (λ c κs. search rules)
     (λ c. search rules)
     (λ c κs. search rules)
     (λ c. search rules)
-    returns_3)
+    returns)

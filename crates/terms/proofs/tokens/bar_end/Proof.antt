@@ -17,38 +17,38 @@ invariant_loop text from at₀ at =
 abbrev decreases_loop : tie.decreases-loop-at
 decreases_loop text from at₀ at = length text - at
 
-loop_holds : tie.Need-loop-at-init invariant_loop decreases_loop
-loop_holds c = (omega arith, omega arith, behind_none c.args.text.now c.args.from (barred (drop c.args.from c.args.text.now)))
+loop-at-init : tie.Need-loop-at-init invariant_loop decreases_loop
+loop-at-init c = (omega arith, omega arith, behind_none c.args.text.now c.args.from (barred (drop c.args.from c.args.text.now)))
 
-shared-slice-read-b : tie.Need-bounds-text-at invariant_loop decreases_loop
-shared-slice-read-b c = omega arith
+bounds-text-at : tie.Need-bounds-text-at invariant_loop decreases_loop
+bounds-text-at c = omega arith
 
-returns : tie.Need-returns-then-b-eq124 invariant_loop decreases_loop
-returns c =
+returns-then-b-eq124 : tie.Need-returns-then-b-eq124 invariant_loop decreases_loop
+returns-then-b-eq124 c =
     let head = c.before.before.before in
     let text = head.args.text.now in
     let front = between text head.args.from head.loop-at.at in
     (head.loop-at.invariant.2 ∙ ap (behind front) (bar_here text head.loop-at.at (omega arith) (eq-eqb _ _ c.if-b-eq124.true)) ∙ behind_nothing front, omega arith, omega arith)
 
-bar-byte-requires : tie.Need-bar_byte-requires invariant_loop decreases_loop
-bar-byte-requires c κs = tt
+bar_byte-requires : tie.Need-bar_byte-requires invariant_loop decreases_loop
+bar_byte-requires c κs = tt
 
-returns_2 : tie.Need-returns-then-not-bar_byte invariant_loop decreases_loop
-returns_2 c =
+returns-then-not-bar_byte : tie.Need-returns-then-not-bar_byte invariant_loop decreases_loop
+returns-then-not-bar_byte c =
     let head = c.before.before.before.before.before in
     let text = head.args.text.now in
     head.loop-at.invariant.2
     ∙ ap (behind (between text head.args.from head.loop-at.at))
     (bar_wrong text head.loop-at.at (omega arith) (ne_eqb _ _ c.if-b-eq124.false) (sym c.bar_byte.ensures ∙ c.if-not-bar_byte.true))
 
-add_at : tie.Need-overflow_add-at invariant_loop decreases_loop
-add_at c = omega arith
+overflow_add-at : tie.Need-overflow_add-at invariant_loop decreases_loop
+overflow_add-at c = omega arith
 
-loop_less : tie.Need-loop-at-smaller invariant_loop decreases_loop
-loop_less c = omega arith
+loop-at-smaller : tie.Need-loop-at-smaller invariant_loop decreases_loop
+loop-at-smaller c = omega arith
 
-loop_again : tie.Need-loop-at-preserved invariant_loop decreases_loop
-loop_again c =
+loop-at-preserved : tie.Need-loop-at-preserved invariant_loop decreases_loop
+loop-at-preserved c =
     let head = c.before.before.before.before.before in
     let text = head.args.text.now in
     let from = head.args.from in
@@ -61,8 +61,8 @@ loop_again c =
           ∙ behind_more text from at (omega arith) (omega arith) (barred (drop (at + 1) text)),
     )
 
-returns_3 : tie.Need-returns invariant_loop decreases_loop
-returns_3 c =
+returns : tie.Need-returns invariant_loop decreases_loop
+returns c =
     let head = c.before in
     let text = head.args.text.now in
     head.loop-at.invariant.2 ∙ ap (behind (between text head.args.from head.loop-at.at)) (bar_past text head.loop-at.at (omega arith))
@@ -73,12 +73,12 @@ bar_end_spec =
     (tie.spec
     invariant_loop
     decreases_loop
-    loop_holds
-    shared-slice-read-b
-    returns
-    bar-byte-requires
-    returns_2
-    add_at
-    loop_less
-    loop_again
-    returns_3)
+    loop-at-init
+    bounds-text-at
+    returns-then-b-eq124
+    bar_byte-requires
+    returns-then-not-bar_byte
+    overflow_add-at
+    loop-at-smaller
+    loop-at-preserved
+    returns)

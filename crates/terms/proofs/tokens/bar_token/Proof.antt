@@ -13,14 +13,14 @@ use Rattle.terms.proofs.tokens.bar_token.Tie as tie
 closed : (c : tie.In-At) → BarredTo c.args.text.now (c.args.place + 1) (Found.At c.in-At.to)
 closed c = subst (BarredTo _ _) c.in-At.is c.bar_end.ensures
 
-add-t9 : tie.Need-overflow_add-result
-add-t9 c = omega (arith, (closed c).2)
+overflow_add-result : tie.Need-overflow_add-result
+overflow_add-result c = omega (arith, (closed c).2)
 
-returns : tie.Need-returns-in-At
-returns c = let s = c.before.before.before in barred_is s.args.text.now s.args.place s.requires.0 s.requires.1 _ (closed c)
+returns-in-At : tie.Need-returns-in-At
+returns-in-At c = let s = c.before.before.before in barred_is s.args.text.now s.args.place s.requires.0 s.requires.1 _ (closed c)
 
-returns_2 : tie.Need-returns-in-Nothing
-returns_2 c =
+returns-in-Nothing : tie.Need-returns-in-Nothing
+returns-in-Nothing c =
     let s = c.before.before.before in
     unbarred_is s.args.text.now s.args.place s.requires.0 s.requires.1
     (subst (BarredTo s.args.text.now _) c.in-Nothing.is c.bar_end.ensures)
@@ -32,7 +32,7 @@ bar_token_spec =
     (λ c. search rules)
     (λ c κs. search rules)
     (λ c. search rules)
-    add-t9
+    overflow_add-result
     (λ c. search rules)
-    returns
-    returns_2)
+    returns-in-At
+    returns-in-Nothing)

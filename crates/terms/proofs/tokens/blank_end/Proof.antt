@@ -16,48 +16,48 @@ invariant_loop text from at₀ at = (at ≤ length text) × (from + blank false 
 abbrev decreases_loop : tie.decreases-loop-at
 decreases_loop text from at₀ at = length text - at
 
-loop_holds : tie.Need-loop-at-init invariant_loop decreases_loop
-loop_holds c = (omega arith, refl)
+loop-at-init : tie.Need-loop-at-init invariant_loop decreases_loop
+loop-at-init c = (omega arith, refl)
 
-shared-slice-read-b : tie.Need-bounds-text-at invariant_loop decreases_loop
-shared-slice-read-b c = omega arith
+bounds-text-at : tie.Need-bounds-text-at invariant_loop decreases_loop
+bounds-text-at c = omega arith
 
 white-requires : tie.Need-white-requires invariant_loop decreases_loop
 white-requires c κs = tt
 
-add_at : tie.Need-overflow_add-at invariant_loop decreases_loop
-add_at c = omega arith
+overflow_add-at : tie.Need-overflow_add-at invariant_loop decreases_loop
+overflow_add-at c = omega arith
 
-loop_less : tie.Need-loop-at-smaller-then-white invariant_loop decreases_loop
-loop_less c = omega arith
+loop-at-smaller-then-white : tie.Need-loop-at-smaller-then-white invariant_loop decreases_loop
+loop-at-smaller-then-white c = omega arith
 
-loop_again : tie.Need-loop-at-preserved-then-white invariant_loop decreases_loop
-loop_again c =
+loop-at-preserved-then-white : tie.Need-loop-at-preserved-then-white invariant_loop decreases_loop
+loop-at-preserved-then-white c =
     let head = c.before.before.before.before in
     let text = head.args.text.now in (
       omega arith,
       head.loop-at.invariant.1 ∙ blank_white text head.loop-at.at (omega arith) (sym c.white.ensures ∙ c.if-white.true),
     )
 
-returns : tie.Need-returns-then-b-ne59 invariant_loop decreases_loop
-returns c =
+returns-then-b-ne59 : tie.Need-returns-then-b-ne59 invariant_loop decreases_loop
+returns-then-b-ne59 c =
     let head = c.before.before.before.before.before in
     let text = head.args.text.now in
     let ends =
     blank_ends text head.loop-at.at (omega arith) (sym c.white.ensures ∙ c.if-white.false) (ne_eqb _ _ c.if-b-ne59.true) in
     record { ends = sym (head.loop-at.invariant.1 ∙ ends); inside = omega arith }
 
-add-comment-end : tie.Need-overflow_add-at-in-loop-at invariant_loop decreases_loop
-add-comment-end c = omega arith
+overflow_add-at-in-loop-at : tie.Need-overflow_add-at-in-loop-at invariant_loop decreases_loop
+overflow_add-at-in-loop-at c = omega arith
 
-comment-end-requires : tie.Need-comment_end-at-requires invariant_loop decreases_loop
-comment-end-requires c κs = omega arith
+comment_end-at-requires : tie.Need-comment_end-at-requires invariant_loop decreases_loop
+comment_end-at-requires c κs = omega arith
 
-loop-less-2 : tie.Need-loop-at-smaller invariant_loop decreases_loop
-loop-less-2 c = omega (arith, c.comment_end-at.ensures.onward, c.comment_end-at.ensures.inside)
+loop-at-smaller : tie.Need-loop-at-smaller invariant_loop decreases_loop
+loop-at-smaller c = omega (arith, c.comment_end-at.ensures.onward, c.comment_end-at.ensures.inside)
 
-loop-again-2 : tie.Need-loop-at-preserved invariant_loop decreases_loop
-loop-again-2 c =
+loop-at-preserved : tie.Need-loop-at-preserved invariant_loop decreases_loop
+loop-at-preserved c =
     let head = c.before.before.before.before.before.before in
     let text = head.args.text.now in
     let else = c.before in
@@ -65,8 +65,8 @@ loop-again-2 c =
     blank_semicolon text head.loop-at.at (omega arith) (sym else.white.ensures ∙ else.if-white.false) (eq-eqb _ _ else.if-b-ne59.false) in
     (omega (arith, c.comment_end-at.ensures.inside), head.loop-at.invariant.1 ∙ comment ∙ c.comment_end-at.ensures.goes_on)
 
-returns_2 : tie.Need-returns invariant_loop decreases_loop
-returns_2 c =
+returns : tie.Need-returns invariant_loop decreases_loop
+returns c =
     let head = c.before in
     let text = head.args.text.now in
     let at = head.loop-at.at in
@@ -79,15 +79,15 @@ blank_end_spec =
     (tie.spec
     invariant_loop
     decreases_loop
-    loop_holds
-    shared-slice-read-b
+    loop-at-init
+    bounds-text-at
     white-requires
-    add_at
-    loop_less
-    loop_again
-    returns
-    add-comment-end
-    comment-end-requires
-    loop-less-2
-    loop-again-2
-    returns_2)
+    overflow_add-at
+    loop-at-smaller-then-white
+    loop-at-preserved-then-white
+    returns-then-b-ne59
+    overflow_add-at-in-loop-at
+    comment_end-at-requires
+    loop-at-smaller
+    loop-at-preserved
+    returns)

@@ -10,19 +10,19 @@ use Rattle.terms.proofs.tokens.byte_token.Tie as tie
 abbrev pick : Bool → Bool → Lexeme
 pick p q = elim p [ true ↦ Lexeme.Opening | false ↦ elim q [ true ↦ Lexeme.Closing | false ↦ Lexeme.Wrong ] ]
 
-returns : tie.Need-returns-then-b-eq40
-returns c = ap (λ p. pick p (eqb c.args.b 41)) (sym (eq-eqb _ _ c.if-b-eq40.true))
+returns-then-b-eq40 : tie.Need-returns-then-b-eq40
+returns-then-b-eq40 c = ap (λ p. pick p (eqb c.args.b 41)) (sym (eq-eqb _ _ c.if-b-eq40.true))
 
-returns_2 : tie.Need-returns-then-b-eq41
-returns_2 c = ap₂ {C = Lexeme} pick (sym (ne_eqb _ _ c.if-b-eq40.false)) (sym (eq-eqb _ _ c.if-b-eq41.true))
+returns-then-b-eq41 : tie.Need-returns-then-b-eq41
+returns-then-b-eq41 c = ap₂ {C = Lexeme} pick (sym (ne_eqb _ _ c.if-b-eq40.false)) (sym (eq-eqb _ _ c.if-b-eq41.true))
 
-returns_3 : tie.Need-returns
-returns_3 c = ap₂ {C = Lexeme} pick (sym (ne_eqb _ _ c.if-b-eq40.false)) (sym (ne_eqb _ _ c.if-b-eq41.false))
+returns : tie.Need-returns
+returns c = ap₂ {C = Lexeme} pick (sym (ne_eqb _ _ c.if-b-eq40.false)) (sym (ne_eqb _ _ c.if-b-eq41.false))
 
 pub byte_token_spec : {M : Type 1} → statement M
 byte_token_spec =
     tie.close
     (tie.spec
-    returns
-    returns_2
-    returns_3)
+    returns-then-b-eq40
+    returns-then-b-eq41
+    returns)

@@ -16,20 +16,20 @@ invariant_loop text from at₀ at =
 abbrev decreases_loop : tie.decreases-loop-at
 decreases_loop text from at₀ at = length text - at
 
-loop_holds : tie.Need-loop-at-init invariant_loop decreases_loop
-loop_holds c = (omega arith, omega arith, refl)
+loop-at-init : tie.Need-loop-at-init invariant_loop decreases_loop
+loop-at-init c = (omega arith, omega arith, refl)
 
-shared-slice-read-line-break : tie.Need-bounds-text-at invariant_loop decreases_loop
-shared-slice-read-line-break c = omega arith
+bounds-text-at : tie.Need-bounds-text-at invariant_loop decreases_loop
+bounds-text-at c = omega arith
 
-line-break-requires : tie.Need-line_break-requires invariant_loop decreases_loop
-line-break-requires c κs = tt
+line_break-requires : tie.Need-line_break-requires invariant_loop decreases_loop
+line_break-requires c κs = tt
 
-add-result : tie.Need-overflow_add-result invariant_loop decreases_loop
-add-result c = omega arith
+overflow_add-result : tie.Need-overflow_add-result invariant_loop decreases_loop
+overflow_add-result c = omega arith
 
-returns : tie.Need-returns-then-line_break invariant_loop decreases_loop
-returns c =
+returns-then-line_break : tie.Need-returns-then-line_break invariant_loop decreases_loop
+returns-then-line_break c =
     let head = c.before.before.before.before in
     let text = head.args.text.now in
     let at = head.loop-at.at in
@@ -42,14 +42,14 @@ returns c =
       inside = omega arith;
     }
 
-add_at : tie.Need-overflow_add-at invariant_loop decreases_loop
-add_at c = omega arith
+overflow_add-at : tie.Need-overflow_add-at invariant_loop decreases_loop
+overflow_add-at c = omega arith
 
-loop_less : tie.Need-loop-at-smaller invariant_loop decreases_loop
-loop_less c = omega arith
+loop-at-smaller : tie.Need-loop-at-smaller invariant_loop decreases_loop
+loop-at-smaller c = omega arith
 
-loop_again : tie.Need-loop-at-preserved invariant_loop decreases_loop
-loop_again c =
+loop-at-preserved : tie.Need-loop-at-preserved invariant_loop decreases_loop
+loop-at-preserved c =
     let head = c.before.before.before.before in
     let text = head.args.text.now in
     let at = head.loop-at.at in (
@@ -60,8 +60,8 @@ loop_again c =
           ∙ ap (λ t. at + 1 + blank (not t) (drop (at + 1) text)) (sym c.line_break.ensures ∙ c.if-line_break.false),
     )
 
-returns_2 : tie.Need-returns invariant_loop decreases_loop
-returns_2 c =
+returns : tie.Need-returns invariant_loop decreases_loop
+returns c =
     let head = c.before in
     let text = head.args.text.now in
     let none_left = drop_of_length-le text {i = head.loop-at.at} (omega arith) in
@@ -77,12 +77,12 @@ comment_end_spec =
     (tie.spec
     invariant_loop
     decreases_loop
-    loop_holds
-    shared-slice-read-line-break
-    line-break-requires
-    add-result
-    returns
-    add_at
-    loop_less
-    loop_again
-    returns_2)
+    loop-at-init
+    bounds-text-at
+    line_break-requires
+    overflow_add-result
+    returns-then-line_break
+    overflow_add-at
+    loop-at-smaller
+    loop-at-preserved
+    returns)

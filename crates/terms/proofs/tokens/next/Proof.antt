@@ -7,29 +7,29 @@ use borrow.Author.Rules.{rules}
 use Rattle.terms.proofs.tokens.next.Statement.{statement}
 use Rattle.terms.proofs.tokens.next.Tie as tie
 
-returns : tie.Need-returns-then-place-text
-returns c =
+returns-then-place-text : tie.Need-returns-then-place-text
+returns-then-place-text c =
     let gap = c.before in
     let s = gap.before.before in
     ends_here s.args.text.now s.args.at _ s.requires gap.blank_end-place.ensures c.if-place-text.true
 
-word-token-requires : tie.Need-word_token-requires
-word-token-requires c κs = (omega arith, sym c.word_byte.ensures ∙ c.if-word_byte.true)
+word_token-requires : tie.Need-word_token-requires
+word_token-requires c κs = (omega arith, sym c.word_byte.ensures ∙ c.if-word_byte.true)
 
-returns_2 : tie.Need-returns-then-word_byte
-returns_2 c =
+returns-then-word_byte : tie.Need-returns-then-word_byte
+returns-then-word_byte c =
     let gap = c.before.before.before.before.before in
     let s = gap.before.before in
     starts_here s.args.text.now s.args.at _ s.requires gap.blank_end-place.ensures _ (omega arith) c.word_token.ensures
 
-returns_3 : tie.Need-returns-then-b-eq124
-returns_3 c =
+returns-then-b-eq124 : tie.Need-returns-then-b-eq124
+returns-then-b-eq124 c =
     let gap = c.before.before.before.before.before.before in
     let s = gap.before.before in
     starts_here s.args.text.now s.args.at _ s.requires gap.blank_end-place.ensures _ (omega arith) c.bar_token.ensures
 
-returns_4 : tie.Need-returns
-returns_4 c =
+returns : tie.Need-returns
+returns c =
     let else = c.before in
     let word = else.before.before in
     let gap = word.before.before.before in
@@ -42,13 +42,13 @@ next_spec =
     tie.close
     (tie.spec
     (λ c κs. search rules)
-    returns
+    returns-then-place-text
     (λ c. search rules)
     (λ c κs. search rules)
-    word-token-requires
-    returns_2
+    word_token-requires
+    returns-then-word_byte
     (λ c κs. search rules)
-    returns_3
+    returns-then-b-eq124
     (λ c κs. search rules)
     (λ c. search rules)
-    returns_4)
+    returns)

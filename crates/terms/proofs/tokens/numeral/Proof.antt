@@ -9,16 +9,16 @@ use Rattle.terms.proofs.tokens.numeral.Tie as tie
 abbrev pick : Bool → Lexeme
 pick z = elim z [ true ↦ Lexeme.Nought | false ↦ Lexeme.Wrong ]
 
-returns : tie.Need-returns-then-same
-returns c = ap pick (sym (sym c.same.ensures ∙ c.if-same.true))
+returns-then-same : tie.Need-returns-then-same
+returns-then-same c = ap pick (sym (sym c.same.ensures ∙ c.if-same.true))
 
-returns_2 : tie.Need-returns
-returns_2 c = ap pick (sym (sym c.same.ensures ∙ c.if-same.false))
+returns : tie.Need-returns
+returns c = ap pick (sym (sym c.same.ensures ∙ c.if-same.false))
 
 pub numeral_spec : {M : Type 1} → statement M
 numeral_spec =
     tie.close
     (tie.spec
     (λ c κs. search rules)
-    returns
-    returns_2)
+    returns-then-same
+    returns)

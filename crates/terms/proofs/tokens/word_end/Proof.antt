@@ -16,19 +16,19 @@ invariant_loop text from at₀ at = (from ≤ at) × (at ≤ length text) × (ru
 abbrev decreases_loop : tie.decreases-loop-at
 decreases_loop text from at₀ at = length text - at
 
-loop_holds : tie.Need-loop-at-init invariant_loop decreases_loop
-loop_holds c =
+loop-at-init : tie.Need-loop-at-init invariant_loop decreases_loop
+loop-at-init c =
     let text = c.args.text.now in
     (omega arith, omega arith, ap (λ l. l ++ run (drop c.args.from text)) (sym (between_none text c.args.from)))
 
-shared-slice-read-word-byte : tie.Need-bounds-text-at invariant_loop decreases_loop
-shared-slice-read-word-byte c = omega arith
+bounds-text-at : tie.Need-bounds-text-at invariant_loop decreases_loop
+bounds-text-at c = omega arith
 
-word-byte-requires : tie.Need-word_byte-requires invariant_loop decreases_loop
-word-byte-requires c κs = tt
+word_byte-requires : tie.Need-word_byte-requires invariant_loop decreases_loop
+word_byte-requires c κs = tt
 
-returns : tie.Need-returns-then-not-word_byte invariant_loop decreases_loop
-returns c =
+returns-then-not-word_byte : tie.Need-returns-then-not-word_byte invariant_loop decreases_loop
+returns-then-not-word_byte c =
     let head = c.before.before.before.before in
     let text = head.args.text.now in
     record {
@@ -40,14 +40,14 @@ returns c =
       inside = omega arith;
     }
 
-add_at : tie.Need-overflow_add-at invariant_loop decreases_loop
-add_at c = omega arith
+overflow_add-at : tie.Need-overflow_add-at invariant_loop decreases_loop
+overflow_add-at c = omega arith
 
-loop_less : tie.Need-loop-at-smaller invariant_loop decreases_loop
-loop_less c = omega arith
+loop-at-smaller : tie.Need-loop-at-smaller invariant_loop decreases_loop
+loop-at-smaller c = omega arith
 
-loop_again : tie.Need-loop-at-preserved invariant_loop decreases_loop
-loop_again c =
+loop-at-preserved : tie.Need-loop-at-preserved invariant_loop decreases_loop
+loop-at-preserved c =
     let head = c.before.before.before.before in
     let text = head.args.text.now in (
       omega arith,
@@ -58,8 +58,8 @@ loop_again c =
           ∙ passed_more text head.args.from head.loop-at.at (omega arith) (omega arith) (run (drop (head.loop-at.at + 1) text)),
     )
 
-returns_2 : tie.Need-returns invariant_loop decreases_loop
-returns_2 c =
+returns : tie.Need-returns invariant_loop decreases_loop
+returns c =
     let head = c.before in
     let text = head.args.text.now in
     record {
@@ -75,11 +75,11 @@ word_end_spec =
     (tie.spec
     invariant_loop
     decreases_loop
-    loop_holds
-    shared-slice-read-word-byte
-    word-byte-requires
-    returns
-    add_at
-    loop_less
-    loop_again
-    returns_2)
+    loop-at-init
+    bounds-text-at
+    word_byte-requires
+    returns-then-not-word_byte
+    overflow_add-at
+    loop-at-smaller
+    loop-at-preserved
+    returns)

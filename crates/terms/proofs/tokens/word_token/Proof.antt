@@ -5,22 +5,22 @@ use borrow.Author.Rules.{rules}
 use Rattle.terms.proofs.tokens.word_token.Statement.{statement}
 use Rattle.terms.proofs.tokens.word_token.Tie as tie
 
-returns : tie.Need-returns-then-is_digit
-returns c =
+returns-then-is_digit : tie.Need-returns-then-is_digit
+returns-then-is_digit c =
     let digits = c.before.before.before in
     let s = digits.before.before.before.before in
     numeral_is s.args.text.now s.args.place s.requires.0 s.requires.1 _ digits.word_end-next.ensures
     (sym digits.is_digit.ensures ∙ c.if-is_digit.true) c.numeral-lexeme.ensures
 
-returns_2 : tie.Need-returns-then-reserved
-returns_2 c =
+returns-then-reserved : tie.Need-returns-then-reserved
+returns-then-reserved c =
     let digits = c.before.before.before.before in
     let s = digits.before.before.before.before in
     reserved_is s.args.text.now s.args.place s.requires.0 s.requires.1 _ digits.word_end-next.ensures
     (sym digits.is_digit.ensures ∙ c.if-is_digit.false) (sym c.reserved.ensures ∙ c.if-reserved.true)
 
-returns_3 : tie.Need-returns
-returns_3 c =
+returns : tie.Need-returns
+returns c =
     let digits = c.before.before.before.before in
     let s = digits.before.before.before.before in
     symbol_is s.args.text.now s.args.place s.requires.0 s.requires.1 _ digits.word_end-next.ensures
@@ -37,10 +37,10 @@ word_token_spec =
     (λ c. search rules)
     (λ c. search rules)
     (λ c κs. search rules)
-    returns
+    returns-then-is_digit
     (λ c. search rules)
     (λ c. search rules)
     (λ c. search rules)
     (λ c κs. search rules)
-    returns_2
-    returns_3)
+    returns-then-reserved
+    returns)

@@ -26,8 +26,8 @@ invariant_loop name table rows i₀ i =
 abbrev decreases_loop : tie.decreases-loop-i
 decreases_loop name table rows i₀ i = rows - i
 
-loop_holds : tie.Need-loop-i-init invariant_loop decreases_loop
-loop_holds c = (omega arith, refl)
+loop-i-init : tie.Need-loop-i-init invariant_loop decreases_loop
+loop-i-init c = (omega arith, refl)
 
 -- at the loop's head: the rows are there, and this is the one that is looked at
 module _ (head : tie.At-loop-i invariant_loop decreases_loop) where
@@ -59,46 +59,46 @@ module _ (head : tie.At-loop-i invariant_loop decreases_loop) where
     within_rows : head.loop-i.i < length (rows_in rows table)
     within_rows = omega (arith, length_rows rows table)
 
-mul-from : tie.Need-overflow_mul-from invariant_loop decreases_loop
-mul-from c = omega (arith, few c.before)
+overflow_mul-from : tie.Need-overflow_mul-from invariant_loop decreases_loop
+overflow_mul-from c = omega (arith, few c.before)
 
-add-from : tie.Need-overflow_add-from invariant_loop decreases_loop
-add-from c = omega (arith, few c.before)
+overflow_add-from : tie.Need-overflow_add-from invariant_loop decreases_loop
+overflow_add-from c = omega (arith, few c.before)
 
-mul_wide : tie.Need-overflow_mul-i invariant_loop decreases_loop
-mul_wide c = omega (arith, few c.before)
+overflow_mul-i : tie.Need-overflow_mul-i invariant_loop decreases_loop
+overflow_mul-i c = omega (arith, few c.before)
 
-shared-slice-read-wide : tie.Need-bounds-table-i invariant_loop decreases_loop
-shared-slice-read-wide c = omega (arith, inside c.before.before (omega arith))
+bounds-table-i : tie.Need-bounds-table-i invariant_loop decreases_loop
+bounds-table-i c = omega (arith, inside c.before.before (omega arith))
 
 wide-requires : tie.Need-wide-requires invariant_loop decreases_loop
 wide-requires c κs = tt
 
-add-to : tie.Need-overflow_add-to invariant_loop decreases_loop
-add-to c = omega (arith, few c.before.before.before, c.wide.ensures.1)
+overflow_add-to : tie.Need-overflow_add-to invariant_loop decreases_loop
+overflow_add-to c = omega (arith, few c.before.before.before, c.wide.ensures.1)
 
-sub_same : tie.Need-slice_bounds-same-count invariant_loop decreases_loop
-sub_same c = omega arith
+slice_bounds-same-count : tie.Need-slice_bounds-same-count invariant_loop decreases_loop
+slice_bounds-same-count c = omega arith
 
 same-requires : tie.Need-same-requires invariant_loop decreases_loop
 same-requires c κs = tt
 
-returns : tie.Need-returns-then-same invariant_loop decreases_loop
-returns c =
+returns-then-same : tie.Need-returns-then-same invariant_loop decreases_loop
+returns-then-same c =
     let head = c.before.before.before.before.before.before in
     sym
     (fails_here (other (name head)) (rows_in (rows head) (table head)) [] head.loop-i.i (within_rows head (omega arith))
     (tells head (omega arith) _ c.wide.ensures.0 refl c.same.ensures ∙ ap not c.if-same.true))
     ∙ head.loop-i.invariant.1
 
-add-i : tie.Need-overflow_add-i invariant_loop decreases_loop
-add-i c = omega (arith, few c.before.before.before.before.before.before)
+overflow_add-i : tie.Need-overflow_add-i invariant_loop decreases_loop
+overflow_add-i c = omega (arith, few c.before.before.before.before.before.before)
 
-loop_less : tie.Need-loop-i-smaller invariant_loop decreases_loop
-loop_less c = omega arith
+loop-i-smaller : tie.Need-loop-i-smaller invariant_loop decreases_loop
+loop-i-smaller c = omega arith
 
-loop_again : tie.Need-loop-i-preserved invariant_loop decreases_loop
-loop_again c =
+loop-i-preserved : tie.Need-loop-i-preserved invariant_loop decreases_loop
+loop-i-preserved c =
     let head = c.before.before.before.before.before.before in (
       omega arith,
       sym
@@ -107,8 +107,8 @@ loop_again c =
           ∙ head.loop-i.invariant.1,
     )
 
-returns_2 : tie.Need-returns invariant_loop decreases_loop
-returns_2 c =
+returns : tie.Need-returns invariant_loop decreases_loop
+returns c =
     let head = c.before in
     sym (fails_nowhere (other (name head)) (rows_in (rows head) (table head)) head.loop-i.i (omega (arith, length_rows (rows head) (table head))))
     ∙ head.loop-i.invariant.1
@@ -119,19 +119,19 @@ row_of_spec =
     (tie.spec
     invariant_loop
     decreases_loop
-    loop_holds
-    mul-from
-    add-from
-    mul_wide
-    shared-slice-read-wide
+    loop-i-init
+    overflow_mul-from
+    overflow_add-from
+    overflow_mul-i
+    bounds-table-i
     wide-requires
-    add-to
-    sub_same
+    overflow_add-to
+    slice_bounds-same-count
     (λ c. search rules)
     (λ c. search rules)
     same-requires
-    returns
-    add-i
-    loop_less
-    loop_again
-    returns_2)
+    returns-then-same
+    overflow_add-i
+    loop-i-smaller
+    loop-i-preserved
+    returns)

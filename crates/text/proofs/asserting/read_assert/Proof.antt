@@ -64,8 +64,8 @@ module _ (c : tie.In-Read) where
   fits_now : TableFits call.read_term.new.nodes asked.laying.count
   fits_now = record { long = call.read_term.auto.nodes ∙ (begin call).requires.table_fits.long; few = read_sound.3 }
 
-returns : tie.Need-returns-in-Closing
-returns c =
+returns-in-Closing : tie.Need-returns-in-Closing
+returns-in-Closing c =
     let s = c.before.before.before.before.before.before in
     let lexed = c.next-token in
     record {
@@ -74,8 +74,8 @@ returns c =
           (ap (lexeme_read s.args.text.now) c.in-Closing.is) refl;
     }
 
-read_term_requires : tie.Need-read_term-requires
-read_term_requires c κs =
+read_term-requires : tie.Need-read_term-requires
+read_term-requires c κs =
     let s = c.before.before.before.before.before.before.before.before.before in
     let lexed = c.next-token in (
       record {
@@ -96,13 +96,13 @@ keep-requires c κs =
     let s = begin (call known) in
     record { long = s.requires.long; few = s.requires.few; small = (read_sound known).2 }
 
-returns_2 : tie.Need-returns-in-Refused
-returns_2 c =
+returns-in-Refused : tie.Need-returns-in-Refused
+returns-in-Refused c =
     let R = c.before.before.before in
     record { says = λ symbols inside. subst (Says R symbols inside) c.in-Refused.is (term_says R symbols inside) }
 
-returns_3 : tie.Need-returns-in-Wrong
-returns_3 c =
+returns-in-Wrong : tie.Need-returns-in-Wrong
+returns-in-Wrong c =
     let exacts = c.before in
     let known = exacts.before.before.before in
     let R = call known in
@@ -112,8 +112,8 @@ returns_3 c =
           subst (WrongAt (text R)) p (one_term inside (read_for known symbols inside) t lexed e);
     }
 
-returns_4 : tie.Need-returns-in-At
-returns_4 c =
+returns-in-At : tie.Need-returns-in-At
+returns-in-At c =
     let kept = c.before.before in
     let told = kept.before.before in
     let exacts = told.before in
@@ -134,8 +134,8 @@ read_assert_spec =
     (tie.spec
     (λ c κs. search rules)
     (λ c. search rules)
-    returns
-    read_term_requires
+    returns-in-Closing
+    read_term-requires
     (λ c. search rules)
     (λ c. search rules)
     exact-requires
@@ -143,9 +143,9 @@ read_assert_spec =
     (λ c. search rules)
     keep-requires
     (λ c. search rules)
-    returns_2
+    returns-in-Refused
     (λ c. search rules)
-    returns_3
+    returns-in-Wrong
     (λ c. search rules)
     (λ c. search rules)
-    returns_4)
+    returns-in-At)

@@ -42,24 +42,24 @@ module _ (c : tie.In-At) where
   finishing : (sn : List ℕ) (cs : List Command) → Reached (text exacts) (in_checking sn cs) (begin exacts).args.at → Reached (text exacts) (in_finished sn cs) closed
   finishing sn cs r = subst (ReachedBy (text exacts) (in_finished sn cs)) c.in-At.is (closes exacts sn cs r)
 
-next_requires : tie.Need-next-token-requires
-next_requires c κs = closed_inside c
+next-token-requires : tie.Need-next-token-requires
+next-token-requires c κs = closed_inside c
 
-returns : tie.Need-returns-in-End
-returns c =
+returns-in-End : tie.Need-returns-in-End
+returns-in-End c =
     let known = c.before.before in
     let lexed = c.next-token in
     λ sn cs r.
     finishes (text (exacts known)) (in_finished sn cs) (closed known) (finishing known sn cs r) lexed.result lexed.ensures
     (ap (lexeme_read (text (exacts known))) c.in-End.is) refl
 
-returns_2 : tie.Need-returns-in-Wrong
-returns_2 c =
+returns-in-Wrong : tie.Need-returns-in-Wrong
+returns-in-Wrong c =
     let exacts = c.before in
     λ sn cs r. subst (ReachedBy (text exacts) (in_finished sn cs)) c.in-Wrong.is (closes exacts sn cs r)
 
-returns_3 : tie.Need-returns-in_default
-returns_3 c =
+returns-in_default : tie.Need-returns-in_default
+returns-in_default c =
     let known = c.before.before in
     let lexed = c.next-token in
     λ sn cs r. something_follows (text (exacts known)) sn cs (closed known) (finishing known sn cs r) lexed.result lexed.ensures c.in_default.in_default-own.keys2
@@ -71,8 +71,8 @@ read_end_spec =
     (λ c κs. search rules)
     (λ c. search rules)
     (λ c. search rules)
-    next_requires
+    next-token-requires
     (λ c. search rules)
-    returns
-    returns_2
-    returns_3)
+    returns-in-End
+    returns-in-Wrong
+    returns-in_default)

@@ -68,11 +68,11 @@ module _ (c : tie.In-Word) where
   passed : opened known < c.next-token.result.next
   passed = let lexed = c.next-token in goes_on (text known) (opened known) lexed.result lexed.result.lexeme lexed.ensures.fits reads
 
-next_requires : tie.Need-next-token-requires
-next_requires c κs = opened_inside c
+next-token-requires : tie.Need-next-token-requires
+next-token-requires c κs = opened_inside c
 
-returns : tie.Need-returns-in_default
-returns c =
+returns-in_default : tie.Need-returns-in_default
+returns-in_default c =
     let known = c.before.before in
     let lexed = c.next-token in
     record {
@@ -82,16 +82,16 @@ returns c =
           (λ name. no_word (text known) lexed.result.lexeme name c.in_default.in_default-own.keys2);
     }
 
-word-command-requires : tie.Need-word_command-requires
-word-command-requires c κs = inside c
+word_command-requires : tie.Need-word_command-requires
+word_command-requires c κs = inside c
 
-returns_2 : tie.Need-returns-in-Wrong
-returns_2 c =
+returns-in-Wrong : tie.Need-returns-in-Wrong
+returns-in-Wrong c =
     let exacts = c.before in
     record { sound = tt; says = λ sn cs r. subst (ReachedBy (text_of exacts) (in_command sn cs)) c.in-Wrong.is (opens exacts sn cs r) }
 
-returns_3 : tie.Need-returns-in-Word
-returns_3 c =
+returns-in-Word : tie.Need-returns-in-Word
+returns-in-Word c =
     let word = c.before in
     let known = word.before.before in
     let lexed = word.next-token in
@@ -111,9 +111,9 @@ read_command_spec =
     (λ c κs. search rules)
     (λ c. search rules)
     (λ c. search rules)
-    next_requires
+    next-token-requires
     (λ c. search rules)
-    returns
-    word-command-requires
-    returns_2
-    returns_3)
+    returns-in_default
+    word_command-requires
+    returns-in-Wrong
+    returns-in-Word)

@@ -24,25 +24,25 @@ module _ (c : tie.Else-same) where
 unasserted : (c : tie.Else-same-2) → same_bytes (word (begin c.before.before.before.before.before)) (ascii "assert") ≡ false
 unasserted c = sym c.same-2.ensures ∙ c.if-same-2.false
 
-returns : tie.Need-returns-then-same
-returns c =
+returns-then-same : tie.Need-returns-then-same
+returns-then-same c =
     let s = c.before.before.before.before.before.before in
     sym (command_is (word s) s.args.place s.args.behind (sym c.same.ensures ∙ c.if-same.true) refl refl)
 
-returns_2 : tie.Need-returns-then-same-2
-returns_2 c =
+returns-then-same-2 : tie.Need-returns-then-same-2
+returns-then-same-2 c =
     let else = c.before.before.before.before.before in
     let s = begin else in
     sym (command_is (word s) s.args.place s.args.behind (undeclared else) (sym c.same-2.ensures ∙ c.if-same-2.true) refl)
 
-returns_3 : tie.Need-returns-then-same-3
-returns_3 c =
+returns-then-same-3 : tie.Need-returns-then-same-3
+returns-then-same-3 c =
     let else = c.before.before.before.before.before in
     let s = begin else.before.before.before.before.before in
     sym (command_is (word s) s.args.place s.args.behind (undeclared else.before.before.before.before.before) (unasserted else) (sym c.same-3.ensures ∙ c.if-same-3.true))
 
-returns_4 : tie.Need-returns
-returns_4 c =
+returns : tie.Need-returns
+returns c =
     let else = c.before.before.before.before.before in
     let s = begin else.before.before.before.before.before in
     sym (command_is (word s) s.args.place s.args.behind (undeclared else.before.before.before.before.before) (unasserted else) (sym c.same-3.ensures ∙ c.if-same-3.false))
@@ -55,15 +55,15 @@ word_command_spec =
     (λ c. search rules)
     (λ c. search rules)
     (λ c κs. search rules)
-    returns
+    returns-then-same
     (λ c. search rules)
     (λ c. search rules)
     (λ c. search rules)
     (λ c κs. search rules)
-    returns_2
+    returns-then-same-2
     (λ c. search rules)
     (λ c. search rules)
     (λ c. search rules)
     (λ c κs. search rules)
-    returns_3
-    returns_4)
+    returns-then-same-3
+    returns)

@@ -54,14 +54,14 @@ shelve-requires c κs =
     let s = begin (call known) in
     record { symbols_long = s.requires.symbols_long; small = (sound known).1; below = omega (arith, s.requires.below, (sound known).3) }
 
-returns : tie.Need-returns-in-Wrong
-returns c =
+returns-in-Wrong : tie.Need-returns-in-Wrong
+returns-in-Wrong c =
     let F = c.before in
     λ nodes roots inside.
     subst (FunctionIs (text F) (name_of (text F) (begin F).args.script.declared.sort) inside.commands) c.in-Wrong.is (function_is F nodes roots inside)
 
-returns_2 : tie.Need-returns-in-Symbol
-returns_2 c =
+returns-in-Symbol : tie.Need-returns-in-Symbol
+returns-in-Symbol c =
     let kept = c.before.before.before.before in
     let known = kept.before.before.before in
     let F = call known in
@@ -85,7 +85,7 @@ read_declaration_spec =
     (λ c. search rules)
     shelve-requires
     (λ c. search rules)
-    returns
+    returns-in-Wrong
     (λ c. search rules)
     (λ c. search rules)
-    returns_2)
+    returns-in-Symbol)

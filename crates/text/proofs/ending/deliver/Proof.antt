@@ -7,8 +7,8 @@ use borrow.Author.Rules.{rules}
 use Rattle.text.proofs.ending.deliver.Statement.{statement}
 use Rattle.text.proofs.ending.deliver.Tie as tie
 
-slice-aggregate-bytes : tie.Need-slice_bounds-bytes-end
-slice-aggregate-bytes c =
+slice_bounds-bytes-end : tie.Need-slice_bounds-bytes-end
+slice_bounds-bytes-end c =
     let laid = c.before.before in
     let s = laid.before.before.before.before.before in
     sym (front_long s.args.symbols.now s.args.nodes.now s.args.count _ _ laid.put_problem.ensures)
@@ -25,16 +25,16 @@ put-requires c κs =
     let s = laid.before.before.before.before.before in
     omega (arith, front_long s.args.symbols.now s.args.nodes.now s.args.count _ _ laid.put_problem.ensures, s.requires.room, s.requires.symbols_few, s.requires.few_nodes)
 
-returns : tie.Need-returns-in-Refused
-returns c =
+returns-in-Refused : tie.Need-returns-in-Refused
+returns-in-Refused c =
     let tried = c.before in
     let laid = tried.before.before.before in
     let s = laid.before.before.before.before.before in
     refused_delivered s.args.symbols.now s.args.nodes.now s.args.count _ _ laid.put_problem.ensures s.args.problem.now _
     (sym (ap limit_read c.in-Refused.is) ∙ tried.limits.ensures)
 
-returns_2 : tie.Need-returns-in-Fine
-returns_2 c =
+returns-in-Fine : tie.Need-returns-in-Fine
+returns-in-Fine c =
     let put = c.before.before in
     let told = put.before.before in
     let tried = told.before in
@@ -54,11 +54,11 @@ deliver_spec =
     (λ c. search rules)
     (λ c. search rules)
     (λ c. search rules)
-    slice-aggregate-bytes
+    slice_bounds-bytes-end
     limits-requires
     (λ c. search rules)
     (λ c. search rules)
     put-requires
-    returns
+    returns-in-Refused
     (λ c. search rules)
-    returns_2)
+    returns-in-Fine)

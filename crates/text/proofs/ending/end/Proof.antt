@@ -8,8 +8,8 @@ use borrow.Author.Rules.{rules}
 use Rattle.text.proofs.ending.end.Statement.{statement}
 use Rattle.text.proofs.ending.end.Tie as tie
 
-returns : tie.Need-returns-then-laying
-returns c =
+returns-then-laying : tie.Need-returns-then-laying
+returns-then-laying c =
     let negated = c.before.before.before in
     let joined = negated.before.before.before.before in
     let s = joined.before.before.before.before.before.before.before in
@@ -17,8 +17,8 @@ returns c =
     over_promised text shelf s.args.symbols.now s.args.nodes.now s.args.roots.now s.args.problem.now s.args.script
     joined.join-asked.ensures negated.negate-laying.ensures s.requires.room out c.if-laying.true
 
-returns_2 : tie.Need-returns-then-count-gt32
-returns_2 c =
+returns-then-count-gt32 : tie.Need-returns-then-count-gt32
+returns-then-count-gt32 c =
     let else = c.before.before in
     let negated = else.before.before.before in
     let joined = negated.before.before.before.before in
@@ -28,14 +28,14 @@ returns_2 c =
     joined.join-asked.ensures negated.negate-laying.ensures s.requires.room out else.if-laying.false in
     absurd (omega arith)
 
-slice-aggregate-deliver : tie.Need-slice_bounds-deliver-end
-slice-aggregate-deliver c =
+slice_bounds-deliver-end : tie.Need-slice_bounds-deliver-end
+slice_bounds-deliver-end c =
     let few = c.before.before in
     let s = few.before.before.before.before.before.before.before.before.before.before.before.before.before.before.before in
     sym (length-take-le s.args.script.declared.count s.args.symbols.now (omega (arith, c.if-count-gt32.false, s.requires.symbols_long)))
 
-slice-aggregate-deliver-2 : tie.Need-slice_bounds-deliver-end-3
-slice-aggregate-deliver-2 c =
+slice_bounds-deliver-end-3 : tie.Need-slice_bounds-deliver-end-3
+slice_bounds-deliver-end-3 c =
     let nodes = c.before.before.before.before.before.before.before in
     let negated = nodes.before in
     let joined = negated.before.before.before.before in
@@ -60,8 +60,8 @@ deliver-requires c κs =
       few_nodes = c.negate-laying.ensures.few;
     }
 
-returns_3 : tie.Need-returns
-returns_3 c =
+returns : tie.Need-returns
+returns c =
     let delivered = c.before.before in
     let else = delivered.before.before.before.before.before.before in
     let negated = else.before.before.before in
@@ -78,14 +78,14 @@ end_spec =
     (λ c κs. search rules)
     (λ c κs. search rules)
     (λ c. search rules)
-    returns
+    returns-then-laying
     (λ c. search rules)
-    returns_2
+    returns-then-count-gt32
     (λ c. search rules)
-    slice-aggregate-deliver
+    slice_bounds-deliver-end
     (λ c. search rules)
-    slice-aggregate-deliver-2
+    slice_bounds-deliver-end-3
     deliver-requires
     (λ c. search rules)
     (λ c. search rules)
-    returns_3)
+    returns)

@@ -30,27 +30,27 @@ decreases_loop nodes₀ roots asserts asked₀ i₀ nodes asked i = asserts - i
 ask-requires : tie.Need-ask-requires invariant_loop decreases_loop
 ask-requires c κs = let s = c.before.before.before.before in (s.requires.0, record { a_small = omega arith; b_small = omega arith; c_small = omega arith })
 
-returns : tie.Need-returns-then-asserts-eq0 invariant_loop decreases_loop
-returns c =
+returns-then-asserts-eq0 : tie.Need-returns-then-asserts-eq0 invariant_loop decreases_loop
+returns-then-asserts-eq0 c =
     let asked = c.before.before in
     let s = asked.before.before.before.before.before in
     performs_as (none_joined s.args.roots.now s.args.asserts (omega (arith, s.requires.1, s.requires.2)) asked.if-asserts-eq0.true) asked.ask.ensures
 
-shared-slice-read-wide : tie.Need-bounds-roots-0 invariant_loop decreases_loop
-shared-slice-read-wide c = let s = c.before.before.before.before in omega (arith, s.requires.1)
+bounds-roots-0 : tie.Need-bounds-roots-0 invariant_loop decreases_loop
+bounds-roots-0 c = let s = c.before.before.before.before in omega (arith, s.requires.1)
 
-loop_holds : tie.Need-loop-i-init invariant_loop decreases_loop
-loop_holds c =
+loop-i-init : tie.Need-loop-i-init invariant_loop decreases_loop
+loop-i-init c =
     let s = c.before.before.before.before.before in
     record { long = refl; few = s.requires.0.few; small = c.wide.ensures.1; whole = λ r after p. p }
 
-shared-slice-read-wide-2 : tie.Need-bounds-roots-i invariant_loop decreases_loop
-shared-slice-read-wide-2 c =
+bounds-roots-i : tie.Need-bounds-roots-i invariant_loop decreases_loop
+bounds-roots-i c =
     let s = c.before.before.before.before.before.before.before.before.before in
     omega (arith, s.requires.1, s.requires.2)
 
-ask-requires-2 : tie.Need-ask-asked-requires invariant_loop decreases_loop
-ask-requires-2 c κs =
+ask-asked-requires : tie.Need-ask-asked-requires invariant_loop decreases_loop
+ask-asked-requires c κs =
     let wide = c.before in
     let head = wide.before.before.before.before in
     let s = head.before.before.before.before.before.before in
@@ -59,14 +59,14 @@ ask-requires-2 c κs =
       record { a_small = inv.small; b_small = wide.wide-in-loop-i.ensures.1; c_small = omega arith },
     )
 
-add-i : tie.Need-overflow_add-i invariant_loop decreases_loop
-add-i c = omega arith
+overflow_add-i : tie.Need-overflow_add-i invariant_loop decreases_loop
+overflow_add-i c = omega arith
 
-loop_less : tie.Need-loop-i-smaller invariant_loop decreases_loop
-loop_less c = omega arith
+loop-i-smaller : tie.Need-loop-i-smaller invariant_loop decreases_loop
+loop-i-smaller c = omega arith
 
-loop_again : tie.Need-loop-i-preserved invariant_loop decreases_loop
-loop_again c =
+loop-i-preserved : tie.Need-loop-i-preserved invariant_loop decreases_loop
+loop-i-preserved c =
     let asked = c.before.before in
     let wide = asked.before.before in
     let head = wide.before.before.before.before in
@@ -82,11 +82,11 @@ loop_again c =
           (performs_as (ap (λ (m : ℕ). ask (plain 4 here m 0)) wide.wide-in-loop-i.ensures.0) asked.ask-asked.ensures) p);
     }
 
-same_length_2 : tie.Need-shape_of-nodes invariant_loop decreases_loop
-same_length_2 c = c.loop-i.invariant.long
+shape_of-nodes : tie.Need-shape_of-nodes invariant_loop decreases_loop
+shape_of-nodes c = c.loop-i.invariant.long
 
-returns_2 : tie.Need-returns invariant_loop decreases_loop
-returns_2 c =
+returns : tie.Need-returns invariant_loop decreases_loop
+returns c =
     let head = c.before in
     let wide = head.before in
     let s = wide.before.before.before.before.before in
@@ -107,15 +107,15 @@ join_spec =
     decreases_loop
     ask-requires
     (λ c. search rules)
-    returns
-    shared-slice-read-wide
+    returns-then-asserts-eq0
+    bounds-roots-0
     (λ c κs. search rules)
-    loop_holds
-    shared-slice-read-wide-2
+    loop-i-init
+    bounds-roots-i
     (λ c κs. search rules)
-    ask-requires-2
-    add-i
-    loop_less
-    loop_again
-    same_length_2
-    returns_2)
+    ask-asked-requires
+    overflow_add-i
+    loop-i-smaller
+    loop-i-preserved
+    shape_of-nodes
+    returns)

@@ -6,17 +6,17 @@ use borrow.Author.Rules.{rules}
 use Rattle.text.proofs.ending.limits.Statement.{statement}
 use Rattle.text.proofs.ending.limits.Tie as tie
 
-returns : tie.Need-returns-then-distinct-gt24
-returns c = nine (nodes_of c.args.whole.now) (omega (arith, c.distinct.ensures))
+returns-then-distinct-gt24 : tie.Need-returns-then-distinct-gt24
+returns-then-distinct-gt24 c = nine (nodes_of c.args.whole.now) (omega (arith, c.distinct.ensures))
 
-returns_2 : tie.Need-returns-then-distinct-gt16
-returns_2 c =
+returns-then-distinct-gt16 : tie.Need-returns-then-distinct-gt16
+returns-then-distinct-gt16 c =
     let first = c.before.before in
     let t = nodes_of first.args.whole.now in
     ten t (omega (arith, first.if-distinct-gt24.false, first.distinct.ensures)) (omega (arith, c.distinct-2.ensures))
 
-returns_3 : tie.Need-returns
-returns_3 c =
+returns : tie.Need-returns
+returns c =
     let first = c.before.before in
     let t = nodes_of first.args.whole.now in
     neither t (omega (arith, first.if-distinct-gt24.false, first.distinct.ensures)) (omega (arith, c.distinct-2.ensures))
@@ -26,7 +26,7 @@ limits_spec =
     tie.close
     (tie.spec
     (λ c κs. search rules)
-    returns
+    returns-then-distinct-gt24
     (λ c κs. search rules)
-    returns_2
-    returns_3)
+    returns-then-distinct-gt16
+    returns)

@@ -9,14 +9,14 @@ use borrow.Author.Rules.{rules}
 use Rattle.text.proofs.ending.negate.Statement.{statement}
 use Rattle.text.proofs.ending.negate.Tie as tie
 
-returns : tie.Need-returns-then-laying
-returns c = let s = c.before.before.before in none_negated s.args.nodes.now s.args.asked s.requires.0.few c.if-laying.true
+returns-then-laying : tie.Need-returns-then-laying
+returns-then-laying c = let s = c.before.before.before in none_negated s.args.nodes.now s.args.asked s.requires.0.few c.if-laying.true
 
-returns_2 : tie.Need-returns-then-count-eq256
-returns_2 c = let s = c.before.before.before.before in full_negated s.args.nodes.now s.args.asked c.if-count-eq256.true
+returns-then-count-eq256 : tie.Need-returns-then-count-eq256
+returns-then-count-eq256 c = let s = c.before.before.before.before in full_negated s.args.nodes.now s.args.asked c.if-count-eq256.true
 
-returns_3 : tie.Need-returns
-returns_3 c =
+returns : tie.Need-returns
+returns c =
     let put = c.before.before in
     let room = put.before.before in
     let s = room.before.before.before.before in
@@ -33,8 +33,8 @@ pub negate_spec : {M : Type 1} → statement M
 negate_spec =
     tie.close
     (tie.spec
-    returns
-    returns_2
+    returns-then-laying
+    returns-then-count-eq256
     (λ c. search rules)
     (λ c. search rules)
     (λ c. search rules)
@@ -42,4 +42,4 @@ negate_spec =
     (λ c κs. search rules)
     (λ c. search rules)
     (λ c. search rules)
-    returns_3)
+    returns)

@@ -6,12 +6,12 @@ use borrow.Author.Rules.{rules}
 use Rattle.text.proofs.shelving.goes_over.Statement.{statement}
 use Rattle.text.proofs.shelving.goes_over.Tie as tie
 
-returns_2 : tie.Need-returns-else-over
-returns_2 c = sym (ap (λ (b : Bool). b || leb 32 c.args.count) c.if-over.false)
+returns-else-over : tie.Need-returns-else-over
+returns-else-over c = sym (ap (λ (b : Bool). b || leb 32 c.args.count) c.if-over.false)
 
 pub goes_over_spec : {M : Type 1} → statement M
 goes_over_spec =
     tie.close
     (tie.spec
     (λ c. search rules)
-    returns_2)
+    returns-else-over)

@@ -5,11 +5,11 @@ use borrow.Author.Rules.{rules}
 use Rattle.text.proofs.shelving.mark.Statement.{statement}
 use Rattle.text.proofs.shelving.mark.Tie as tie
 
-returns : tie.Need-returns-then-count-lt32
-returns c = marked_there c.args.symbols.now c.args.count c.args.byte (omega arith)
+returns-then-count-lt32 : tie.Need-returns-then-count-lt32
+returns-then-count-lt32 c = marked_there c.args.symbols.now c.args.count c.args.byte (omega arith)
 
-returns_2 : tie.Need-returns-else-count-lt32
-returns_2 c = marked_out c.args.symbols.now c.args.count c.args.byte (omega arith)
+returns-else-count-lt32 : tie.Need-returns-else-count-lt32
+returns-else-count-lt32 c = marked_out c.args.symbols.now c.args.count c.args.byte (omega arith)
 
 pub mark_spec : {M : Type 1} → statement M
 mark_spec =
@@ -18,5 +18,5 @@ mark_spec =
     (λ c. search rules)
     (λ c. search rules)
     (λ c. search rules)
-    returns
-    returns_2)
+    returns-then-count-lt32
+    returns-else-count-lt32)

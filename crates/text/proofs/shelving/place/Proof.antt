@@ -6,14 +6,14 @@ use borrow.Author.Rules.{rules}
 use Rattle.text.proofs.shelving.place.Statement.{statement}
 use Rattle.text.proofs.shelving.place.Tie as tie
 
-slice-write-shelf-2 : tie.Need-bounds-shelf-count-then-count-shelf
-slice-write-shelf-2 c = simp length-set (omega arith)
+bounds-shelf-count-then-count-shelf : tie.Need-bounds-shelf-count-then-count-shelf
+bounds-shelf-count-then-count-shelf c = simp length-set (omega arith)
 
-slice-write-shelf-3 : tie.Need-bounds-shelf-count-then-count-shelf-2
-slice-write-shelf-3 c = simp length-set (omega arith)
+bounds-shelf-count-then-count-shelf-2 : tie.Need-bounds-shelf-count-then-count-shelf-2
+bounds-shelf-count-then-count-shelf-2 c = simp length-set (omega arith)
 
-returns : tie.Need-returns-then-count-shelf
-returns c = placed_there c.args.shelf.now c.args.count c.args.name c.args.byte (omega arith)
+returns-then-count-shelf : tie.Need-returns-then-count-shelf
+returns-then-count-shelf c = placed_there c.args.shelf.now c.args.count c.args.name c.args.byte (omega arith)
 
 pub place_spec : {M : Type 1} → statement M
 place_spec =
@@ -25,11 +25,11 @@ place_spec =
     (λ c. search rules)
     (λ c. search rules)
     (λ c. search rules)
-    slice-write-shelf-2
+    bounds-shelf-count-then-count-shelf
     (λ c. search rules)
     (λ c. search rules)
     (λ c. search rules)
-    slice-write-shelf-3
+    bounds-shelf-count-then-count-shelf-2
     (λ c. search rules)
-    returns
+    returns-then-count-shelf
     (λ c. search rules))

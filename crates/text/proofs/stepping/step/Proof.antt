@@ -84,8 +84,8 @@ module _ (c : tie.After-read_end) where
       subst (EndedIs (text call_e) (sn call_e) (cs call_e)) q
       (c.read_end.ensures (sn call_e) (cs call_e) (subst (CommandIs (text call_e) (sn call_e) (cs call_e)) c.in-Check.is (command_is call_e)))
 
-read-declaration-requires : tie.Need-read_declaration-requires
-read-declaration-requires c κs =
+read_declaration-requires : tie.Need-read_declaration-requires
+read_declaration-requires c κs =
     let known = c.before.before in
     let s = begin (callD known) in
     record {
@@ -95,8 +95,8 @@ read-declaration-requires c κs =
       below = omega (arith, s.requires.sound.count_few, (sound_d known).0);
     }
 
-read-assert-requires : tie.Need-read_assert-requires
-read-assert-requires c κs =
+read_assert-requires : tie.Need-read_assert-requires
+read_assert-requires c κs =
     let known = c.before.before in
     let s = begin (callA known) in
     record {
@@ -107,35 +107,35 @@ read-assert-requires c κs =
       inside = (sound_a known).1;
     }
 
-read-end-requires : tie.Need-read_end-requires
-read-end-requires c κs = (sound_c c).1
+read_end-requires : tie.Need-read_end-requires
+read_end-requires c κs = (sound_c c).1
 
-returns : tie.Need-returns-in-Wrong
-returns c = let R = c.before in subst (CommandIs (text R) (sn R) (cs R)) c.in-Wrong.is (command_is R)
+returns-in-Wrong : tie.Need-returns-in-Wrong
+returns-in-Wrong c = let R = c.before in subst (CommandIs (text R) (sn R) (cs R)) c.in-Wrong.is (command_is R)
 
-returns_2 : tie.Need-returns-in-Declare
-returns_2 c =
+returns-in-Declare : tie.Need-returns-in-Declare
+returns-in-Declare c =
     let said = c.before.before.before.before in
     let known = said.before.before.before in
     let R = callD known in
     said.read_declaration.ensures (begin R).args.nodes.now (begin R).args.roots.now
     (inside_command R in_declaring (at_d known) (subst (CommandIs (text R) (sn R) (cs R)) known.in-Declare.is (command_is R)) (sound_d known).0 (sound_d known).1)
 
-returns_3 : tie.Need-returns-in-Assert
-returns_3 c =
+returns-in-Assert : tie.Need-returns-in-Assert
+returns-in-Assert c =
     let said = c.before.before.before.before in
     let known = said.before.before.before in
     let R = callA known in
     said.read_assert.ensures.says (begin R).args.symbols.now
     (inside_command R in_asserting (at_a known) (subst (CommandIs (text R) (sn R) (cs R)) known.in-Assert.is (command_is R)) (sound_a known).0 (sound_a known).1)
 
-returns_4 : tie.Need-returns-in-Wrong-read_end
-returns_4 c =
+returns-in-Wrong-read_end : tie.Need-returns-in-Wrong-read_end
+returns-in-Wrong-read_end c =
     let said = c.before in
     ended said c.in-Wrong-read_end.is
 
-returns_5 : tie.Need-returns-in-Yes
-returns_5 c =
+returns-in-Yes : tie.Need-returns-in-Yes
+returns-in-Yes c =
     let said = c.before in
     record { scripted = (begin (callC said.before)).requires; whole = ended said c.in-Yes.is }
 
@@ -146,20 +146,20 @@ step_spec =
     (λ c κs. search rules)
     (λ c. search rules)
     (λ c. search rules)
-    read-declaration-requires
+    read_declaration-requires
     (λ c. search rules)
-    read-assert-requires
+    read_assert-requires
     (λ c. search rules)
-    read-end-requires
-    (λ c. search rules)
-    (λ c. search rules)
-    returns
+    read_end-requires
     (λ c. search rules)
     (λ c. search rules)
-    returns_2
+    returns-in-Wrong
+    (λ c. search rules)
+    (λ c. search rules)
+    returns-in-Declare
     (λ c. search rules)
     (λ c. search rules)
     (λ c. search rules)
-    returns_3
-    returns_4
-    returns_5)
+    returns-in-Assert
+    returns-in-Wrong-read_end
+    returns-in-Yes)

@@ -7,8 +7,8 @@ use lib.ListN.{get_or}
 use Rattle.walk.proofs.branches.cell_at.Statement.{statement}
 use Rattle.walk.proofs.branches.cell_at.Tie as tie
 
-add-result : tie.Need-overflow_add-result
-add-result c = omega (arith, c.shared_slice_known-3-1.given c.two_at.result)
+overflow_add-result : tie.Need-overflow_add-result
+overflow_add-result c = omega (arith, c.shared_slice_known-3-1.given c.two_at.result)
 
 returns : tie.Need-returns
 returns c =
@@ -24,5 +24,5 @@ cell_at_spec =
     (λ c. search rules)
     (λ c. search rules)
     (λ c κs. search rules)
-    add-result
+    overflow_add-result
     returns)

@@ -22,37 +22,37 @@ invariant_loop table shape chunks positions branches₀ wide k₀ branches k =
 abbrev decreases_loop : tie.decreases-loop-k
 decreases_loop table shape chunks positions branches₀ wide k₀ branches k = shape.nodes - k
 
-mul_wide : tie.Need-overflow_mul-wide invariant_loop decreases_loop
-mul_wide c =
+overflow_mul-wide : tie.Need-overflow_mul-wide invariant_loop decreases_loop
+overflow_mul-wide c =
     let s = c.before.before.before in
     let few = chunks_few s.args.chunks s.args.shape.nodes s.requires.2 in
     omega arith
 
-loop_holds : tie.Need-loop-k-init invariant_loop decreases_loop
-loop_holds c = (omega arith, refl, record { stored = below_none _ })
+loop-k-init : tie.Need-loop-k-init invariant_loop decreases_loop
+loop-k-init c = (omega arith, refl, record { stored = below_none _ })
 
-branch-at-requires : tie.Need-branch_at-branch-requires invariant_loop decreases_loop
-branch-at-requires c κs =
+branch_at-branch-requires : tie.Need-branch_at-branch-requires invariant_loop decreases_loop
+branch_at-branch-requires c κs =
     let s = c.before.before.before.before.before.before in
     (s.requires.0, c.loop-k-test.true, s.requires.1.long)
 
-mul-number : tie.Need-offset_bounds-positions-k invariant_loop decreases_loop
-mul-number c = omega arith
+offset_bounds-positions-k : tie.Need-offset_bounds-positions-k invariant_loop decreases_loop
+offset_bounds-positions-k c = omega arith
 
-shared-slice-read-number : tie.Need-bounds-positions-k invariant_loop decreases_loop
-shared-slice-read-number c =
+bounds-positions-k : tie.Need-bounds-positions-k invariant_loop decreases_loop
+bounds-positions-k c =
     let s = c.before.before.before.before.before.before.before.before in
     let long = s.requires.1.long in
     omega arith
 
-mul_at : tie.Need-overflow_mul-at invariant_loop decreases_loop
-mul_at c =
+overflow_mul-at : tie.Need-overflow_mul-at invariant_loop decreases_loop
+overflow_mul-at c =
     let s = c.before.before.before.before.before.before.before.before.before in
     let p = s.requires.1.inside c.loop-k.k c.loop-k-test.true in
     omega arith
 
-mul-branches : tie.Need-overflow_mul-branches invariant_loop decreases_loop
-mul-branches c =
+overflow_mul-branches : tie.Need-overflow_mul-branches invariant_loop decreases_loop
+overflow_mul-branches c =
     let s = c.before.before.before.before.before.before.before.before.before.before in
     let b = c.branch_at-branch in
     let small =
@@ -61,8 +61,8 @@ mul-branches c =
     in
     omega arith
 
-cast-branches : tie.Need-overflow_cast-branches invariant_loop decreases_loop
-cast-branches c =
+overflow_cast-branches : tie.Need-overflow_cast-branches invariant_loop decreases_loop
+overflow_cast-branches c =
     let s = c.before.before.before.before.before.before.before.before.before.before in
     let b = c.branch_at-branch in
     let small =
@@ -71,20 +71,20 @@ cast-branches c =
     in
     omega arith
 
-mul-branches-2 : tie.Need-offset_bounds-branches-at invariant_loop decreases_loop
-mul-branches-2 c =
+offset_bounds-branches-at : tie.Need-offset_bounds-branches-at invariant_loop decreases_loop
+offset_bounds-branches-at c =
     let s = c.before.before.before.before.before.before.before.before.before.before in
     let p = s.requires.1.inside c.loop-k.k c.loop-k-test.true in
     omega arith
 
-slice-write-branches : tie.Need-bounds-branches-at invariant_loop decreases_loop
-slice-write-branches c =
+bounds-branches-at : tie.Need-bounds-branches-at invariant_loop decreases_loop
+bounds-branches-at c =
     let s = c.before.before.before.before.before.before.before.before.before.before in
     let p = s.requires.1.inside c.loop-k.k c.loop-k-test.true in
     omega arith
 
-mul-branches-3 : tie.Need-overflow_mul-branches-in-loop-k invariant_loop decreases_loop
-mul-branches-3 c =
+overflow_mul-branches-in-loop-k : tie.Need-overflow_mul-branches-in-loop-k invariant_loop decreases_loop
+overflow_mul-branches-in-loop-k c =
     let s = c.before.before.before.before.before.before.before.before.before.before.before in
     let b = c.branch_at-branch in
     let small =
@@ -93,8 +93,8 @@ mul-branches-3 c =
     in
     omega arith
 
-cast-branches-2 : tie.Need-overflow_cast-branches-in-loop-k invariant_loop decreases_loop
-cast-branches-2 c =
+overflow_cast-branches-in-loop-k : tie.Need-overflow_cast-branches-in-loop-k invariant_loop decreases_loop
+overflow_cast-branches-in-loop-k c =
     let s = c.before.before.before.before.before.before.before.before.before.before.before in
     let b = c.branch_at-branch in
     let small =
@@ -103,26 +103,26 @@ cast-branches-2 c =
     in
     omega arith
 
-add-branches : tie.Need-overflow_add-branches invariant_loop decreases_loop
-add-branches c =
+overflow_add-branches : tie.Need-overflow_add-branches invariant_loop decreases_loop
+overflow_add-branches c =
     let s = c.before.before.before.before.before.before.before.before.before.before.before in
     let p = s.requires.1.inside c.loop-k.k c.loop-k-test.true in
     omega arith
 
-mul-branches-4 : tie.Need-offset_bounds-branches-at-in-loop-k invariant_loop decreases_loop
-mul-branches-4 c =
+offset_bounds-branches-at-in-loop-k : tie.Need-offset_bounds-branches-at-in-loop-k invariant_loop decreases_loop
+offset_bounds-branches-at-in-loop-k c =
     let s = c.before.before.before.before.before.before.before.before.before.before.before in
     let p = s.requires.1.inside c.loop-k.k c.loop-k-test.true in
     omega arith
 
-slice-write-branches-2 : tie.Need-bounds-branches-at-in-loop-k invariant_loop decreases_loop
-slice-write-branches-2 c =
+bounds-branches-at-in-loop-k : tie.Need-bounds-branches-at-in-loop-k invariant_loop decreases_loop
+bounds-branches-at-in-loop-k c =
     let s = c.before.before.before.before.before.before.before.before.before.before.before in
     let p = s.requires.1.inside c.loop-k.k c.loop-k-test.true in
     simp length-set (omega arith)
 
-mul-branches-5 : tie.Need-overflow_mul-branches-in-loop-k-2 invariant_loop decreases_loop
-mul-branches-5 c =
+overflow_mul-branches-in-loop-k-2 : tie.Need-overflow_mul-branches-in-loop-k-2 invariant_loop decreases_loop
+overflow_mul-branches-in-loop-k-2 c =
     let s = c.before.before.before.before.before.before.before.before.before.before.before.before in
     let b = c.branch_at-branch in
     let small =
@@ -131,8 +131,8 @@ mul-branches-5 c =
     in
     omega arith
 
-cast-branches-3 : tie.Need-overflow_cast-branches-in-loop-k-2 invariant_loop decreases_loop
-cast-branches-3 c =
+overflow_cast-branches-in-loop-k-2 : tie.Need-overflow_cast-branches-in-loop-k-2 invariant_loop decreases_loop
+overflow_cast-branches-in-loop-k-2 c =
     let s = c.before.before.before.before.before.before.before.before.before.before.before.before in
     let b = c.branch_at-branch in
     let small =
@@ -141,26 +141,26 @@ cast-branches-3 c =
     in
     omega arith
 
-add-branches-2 : tie.Need-overflow_add-branches-in-loop-k invariant_loop decreases_loop
-add-branches-2 c =
+overflow_add-branches-in-loop-k : tie.Need-overflow_add-branches-in-loop-k invariant_loop decreases_loop
+overflow_add-branches-in-loop-k c =
     let s = c.before.before.before.before.before.before.before.before.before.before.before.before in
     let p = s.requires.1.inside c.loop-k.k c.loop-k-test.true in
     omega arith
 
-mul-branches-6 : tie.Need-offset_bounds-branches-at-in-loop-k-2 invariant_loop decreases_loop
-mul-branches-6 c =
+offset_bounds-branches-at-in-loop-k-2 : tie.Need-offset_bounds-branches-at-in-loop-k-2 invariant_loop decreases_loop
+offset_bounds-branches-at-in-loop-k-2 c =
     let s = c.before.before.before.before.before.before.before.before.before.before.before.before in
     let p = s.requires.1.inside c.loop-k.k c.loop-k-test.true in
     omega arith
 
-slice-write-branches-3 : tie.Need-bounds-branches-at-in-loop-k-2 invariant_loop decreases_loop
-slice-write-branches-3 c =
+bounds-branches-at-in-loop-k-2 : tie.Need-bounds-branches-at-in-loop-k-2 invariant_loop decreases_loop
+bounds-branches-at-in-loop-k-2 c =
     let s = c.before.before.before.before.before.before.before.before.before.before.before.before in
     let p = s.requires.1.inside c.loop-k.k c.loop-k-test.true in
     simp length-set (omega arith)
 
-mul-branches-7 : tie.Need-overflow_mul-branches-in-loop-k-3 invariant_loop decreases_loop
-mul-branches-7 c =
+overflow_mul-branches-in-loop-k-3 : tie.Need-overflow_mul-branches-in-loop-k-3 invariant_loop decreases_loop
+overflow_mul-branches-in-loop-k-3 c =
     let s = c.before.before.before.before.before.before.before.before.before.before.before.before.before in
     let b = c.branch_at-branch in
     let small =
@@ -169,8 +169,8 @@ mul-branches-7 c =
     in
     omega arith
 
-cast-branches-4 : tie.Need-overflow_cast-branches-in-loop-k-3 invariant_loop decreases_loop
-cast-branches-4 c =
+overflow_cast-branches-in-loop-k-3 : tie.Need-overflow_cast-branches-in-loop-k-3 invariant_loop decreases_loop
+overflow_cast-branches-in-loop-k-3 c =
     let s = c.before.before.before.before.before.before.before.before.before.before.before.before.before in
     let b = c.branch_at-branch in
     let small =
@@ -179,32 +179,32 @@ cast-branches-4 c =
     in
     omega arith
 
-add-branches-3 : tie.Need-overflow_add-branches-in-loop-k-2 invariant_loop decreases_loop
-add-branches-3 c =
+overflow_add-branches-in-loop-k-2 : tie.Need-overflow_add-branches-in-loop-k-2 invariant_loop decreases_loop
+overflow_add-branches-in-loop-k-2 c =
     let s = c.before.before.before.before.before.before.before.before.before.before.before.before.before in
     let p = s.requires.1.inside c.loop-k.k c.loop-k-test.true in
     omega arith
 
-mul-branches-8 : tie.Need-offset_bounds-branches-at-in-loop-k-3 invariant_loop decreases_loop
-mul-branches-8 c =
+offset_bounds-branches-at-in-loop-k-3 : tie.Need-offset_bounds-branches-at-in-loop-k-3 invariant_loop decreases_loop
+offset_bounds-branches-at-in-loop-k-3 c =
     let s = c.before.before.before.before.before.before.before.before.before.before.before.before.before in
     let p = s.requires.1.inside c.loop-k.k c.loop-k-test.true in
     omega arith
 
-slice-write-branches-4 : tie.Need-bounds-branches-at-in-loop-k-3 invariant_loop decreases_loop
-slice-write-branches-4 c =
+bounds-branches-at-in-loop-k-3 : tie.Need-bounds-branches-at-in-loop-k-3 invariant_loop decreases_loop
+bounds-branches-at-in-loop-k-3 c =
     let s = c.before.before.before.before.before.before.before.before.before.before.before.before.before in
     let p = s.requires.1.inside c.loop-k.k c.loop-k-test.true in
     simp length-set (omega arith)
 
-add-k : tie.Need-overflow_add-k invariant_loop decreases_loop
-add-k c = omega arith
+overflow_add-k : tie.Need-overflow_add-k invariant_loop decreases_loop
+overflow_add-k c = omega arith
 
-loop_less : tie.Need-loop-k-smaller invariant_loop decreases_loop
-loop_less c = omega arith
+loop-k-smaller : tie.Need-loop-k-smaller invariant_loop decreases_loop
+loop-k-smaller c = omega arith
 
-loop_again : tie.Need-loop-k-preserved invariant_loop decreases_loop
-loop_again c =
+loop-k-preserved : tie.Need-loop-k-preserved invariant_loop decreases_loop
+loop-k-preserved c =
     let s = c.before.before.before.before.before.before.before.before.before.before.before.before.before in
     let l = c.loop-k in
     let b = c.branch_at-branch in
@@ -224,8 +224,8 @@ loop_again c =
           below (omega arith) v.2),
     )
 
-same_length : tie.Need-shape_of-branches invariant_loop decreases_loop
-same_length c = c.loop-k.invariant.1
+shape_of-branches : tie.Need-shape_of-branches invariant_loop decreases_loop
+shape_of-branches c = c.loop-k.invariant.1
 
 returns : tie.Need-returns invariant_loop decreases_loop
 returns c =
@@ -241,34 +241,34 @@ decode_spec =
     (tie.spec
     invariant_loop
     decreases_loop
-    mul_wide
-    loop_holds
-    branch-at-requires
-    mul-number
-    shared-slice-read-number
+    overflow_mul-wide
+    loop-k-init
+    branch_at-branch-requires
+    offset_bounds-positions-k
+    bounds-positions-k
     (λ c κs. search rules)
-    mul_at
-    mul-branches
-    cast-branches
-    mul-branches-2
-    slice-write-branches
-    mul-branches-3
-    cast-branches-2
-    add-branches
-    mul-branches-4
-    slice-write-branches-2
-    mul-branches-5
-    cast-branches-3
-    add-branches-2
-    mul-branches-6
-    slice-write-branches-3
-    mul-branches-7
-    cast-branches-4
-    add-branches-3
-    mul-branches-8
-    slice-write-branches-4
-    add-k
-    loop_less
-    loop_again
-    same_length
+    overflow_mul-at
+    overflow_mul-branches
+    overflow_cast-branches
+    offset_bounds-branches-at
+    bounds-branches-at
+    overflow_mul-branches-in-loop-k
+    overflow_cast-branches-in-loop-k
+    overflow_add-branches
+    offset_bounds-branches-at-in-loop-k
+    bounds-branches-at-in-loop-k
+    overflow_mul-branches-in-loop-k-2
+    overflow_cast-branches-in-loop-k-2
+    overflow_add-branches-in-loop-k
+    offset_bounds-branches-at-in-loop-k-2
+    bounds-branches-at-in-loop-k-2
+    overflow_mul-branches-in-loop-k-3
+    overflow_cast-branches-in-loop-k-3
+    overflow_add-branches-in-loop-k-2
+    offset_bounds-branches-at-in-loop-k-3
+    bounds-branches-at-in-loop-k-3
+    overflow_add-k
+    loop-k-smaller
+    loop-k-preserved
+    shape_of-branches
     returns)

@@ -15,23 +15,23 @@ invariant_loop cells₀ at chunks value h₀ cells h = (h ≤ chunks) × (length
 abbrev decreases_loop : tie.decreases-loop-h
 decreases_loop cells₀ at chunks value h₀ cells h = chunks - h
 
-loop_holds : tie.Need-loop-h-init invariant_loop decreases_loop
-loop_holds c = (omega arith, search rules, filled_none _ _ _)
+loop-h-init : tie.Need-loop-h-init invariant_loop decreases_loop
+loop-h-init c = (omega arith, search rules, filled_none _ _ _)
 
-mul-put-lanes : tie.Need-overflow_mul-h invariant_loop decreases_loop
-mul-put-lanes c = omega arith
+overflow_mul-h : tie.Need-overflow_mul-h invariant_loop decreases_loop
+overflow_mul-h c = omega arith
 
-add-put-lanes : tie.Need-overflow_add-at invariant_loop decreases_loop
-add-put-lanes c = omega arith
+overflow_add-at : tie.Need-overflow_add-at invariant_loop decreases_loop
+overflow_add-at c = omega arith
 
-add-h : tie.Need-overflow_add-h invariant_loop decreases_loop
-add-h c = omega arith
+overflow_add-h : tie.Need-overflow_add-h invariant_loop decreases_loop
+overflow_add-h c = omega arith
 
-loop_less : tie.Need-loop-h-smaller invariant_loop decreases_loop
-loop_less c = omega arith
+loop-h-smaller : tie.Need-loop-h-smaller invariant_loop decreases_loop
+loop-h-smaller c = omega arith
 
-loop_again : tie.Need-loop-h-preserved invariant_loop decreases_loop
-loop_again c =
+loop-h-preserved : tie.Need-loop-h-preserved invariant_loop decreases_loop
+loop-h-preserved c =
     let s = c.args in
     let l = c.loop-h in (
       omega arith,
@@ -52,12 +52,12 @@ fill_spec =
     (tie.spec
     invariant_loop
     decreases_loop
-    loop_holds
-    mul-put-lanes
-    add-put-lanes
+    loop-h-init
+    overflow_mul-h
+    overflow_add-at
     (λ c κs. search rules)
-    add-h
-    loop_less
-    loop_again
+    overflow_add-h
+    loop-h-smaller
+    loop-h-preserved
     (λ c. search rules)
     returns)

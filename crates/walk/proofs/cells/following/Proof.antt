@@ -7,14 +7,14 @@ use Rattle.walk.proofs.Runs.{strict}
 use Rattle.walk.proofs.cells.following.Statement.{statement}
 use Rattle.walk.proofs.cells.following.Tie as tie
 
-add-next : tie.Need-overflow_add-next
-add-next c = let p = c.requires in omega arith
+overflow_add-next : tie.Need-overflow_add-next
+overflow_add-next c = let p = c.requires in omega arith
 
-returns : tie.Need-returns-then-next-size
-returns c = let s = c.args in sym (ap (λ x. x % s.size) c.if-next-size.true ∙ mod_self s.size)
+returns-then-next-size : tie.Need-returns-then-next-size
+returns-then-next-size c = let s = c.args in sym (ap (λ x. x % s.size) c.if-next-size.true ∙ mod_self s.size)
 
-returns_2 : tie.Need-returns
-returns_2 c =
+returns : tie.Need-returns
+returns c =
     let s = c.args in
     let p = c.requires in
     let n = c.if-next-size.false in
@@ -25,6 +25,6 @@ pub following_spec : {M : Type 1} → statement M
 following_spec =
     tie.close
     (tie.spec
-    add-next
-    returns
-    returns_2)
+    overflow_add-next
+    returns-then-next-size
+    returns)

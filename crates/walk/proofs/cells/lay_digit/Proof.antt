@@ -8,8 +8,8 @@ use Rattle.walk.proofs.Runs.{single_laid}
 use Rattle.walk.proofs.cells.lay_digit.Statement.{statement}
 use Rattle.walk.proofs.cells.lay_digit.Tie as tie
 
-returns : tie.Need-returns-then-size-eq1
-returns c =
+returns-then-size-eq1 : tie.Need-returns-then-size-eq1
+returns-then-size-eq1 c =
     let s = c.before.before.before.before.before.before in
     subst (λ n. DigitLaid s.args.at s.args.lanes s.args.run n s.args.least s.args.cells.now c.fill.new.cells) (sym c.if-size-eq1.true)
     (single_laid s.args.at s.args.lanes s.args.run s.args.least (16 * ((s.args.lanes + 15) / 16)) s.args.cells.now c.fill.new.cells (omega arith) c.fill.ensures)
@@ -21,7 +21,7 @@ lay_digit_spec =
     (λ c. search rules)
     (λ c κs. search rules)
     (λ c. search rules)
-    returns
+    returns-then-size-eq1
     (λ c κs. search rules)
     (λ c. search rules)
     (λ c. search rules)

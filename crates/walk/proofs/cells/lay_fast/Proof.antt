@@ -22,17 +22,17 @@ invariant_loop variables parts cells₀ sizes lanes run₀ v₀ cells run v =
 abbrev decreases_loop : tie.decreases-loop-v
 decreases_loop variables parts cells₀ sizes lanes run₀ v₀ cells run v = parts.fast - v
 
-loop_holds : tie.Need-loop-v-init invariant_loop decreases_loop
-loop_holds c = (omega arith, search rules, refl, fast_none _ _ _ _)
+loop-v-init : tie.Need-loop-v-init invariant_loop decreases_loop
+loop-v-init c = (omega arith, search rules, refl, fast_none _ _ _ _)
 
-mul_at : tie.Need-overflow_mul-at invariant_loop decreases_loop
-mul_at c = omega arith
+overflow_mul-at : tie.Need-overflow_mul-at invariant_loop decreases_loop
+overflow_mul-at c = omega arith
 
-add_at : tie.Need-overflow_add-at invariant_loop decreases_loop
-add_at c = omega arith
+overflow_add-at : tie.Need-overflow_add-at invariant_loop decreases_loop
+overflow_add-at c = omega arith
 
-mul-at-2 : tie.Need-overflow_mul-at-in-loop-v invariant_loop decreases_loop
-mul-at-2 c =
+overflow_mul-at-in-loop-v : tie.Need-overflow_mul-at-in-loop-v invariant_loop decreases_loop
+overflow_mul-at-in-loop-v c =
     let s = c.args in
     let p = c.requires in
     let v = c.loop-v.v in
@@ -43,11 +43,11 @@ mul-at-2 c =
     let m : S * (2 + v) ≤ S * 42 = mul-le-mul_left S (omega arith) in
     omega arith
 
-array-read-lay-digit : tie.Need-bounds-sizes-v invariant_loop decreases_loop
-array-read-lay-digit c = omega (arith, c.requires.0.few, c.requires.1.fast_few)
+bounds-sizes-v : tie.Need-bounds-sizes-v invariant_loop decreases_loop
+bounds-sizes-v c = omega (arith, c.requires.0.few, c.requires.1.fast_few)
 
-lay-digit-requires : tie.Need-lay_digit-requires invariant_loop decreases_loop
-lay-digit-requires c κs =
+lay_digit-requires : tie.Need-lay_digit-requires invariant_loop decreases_loop
+lay_digit-requires c κs =
     let s = c.args in
     let p = c.requires in
     let l = c.loop-v in
@@ -57,11 +57,11 @@ lay-digit-requires c κs =
     let k = c.least.ensures in
     (f.0, f.1, f.2, f.3, f.4, omega arith, omega arith)
 
-array-read-wide : tie.Need-bounds-sizes-v-in-loop-v invariant_loop decreases_loop
-array-read-wide c = omega (arith, c.requires.0.few, c.requires.1.fast_few)
+bounds-sizes-v-in-loop-v : tie.Need-bounds-sizes-v-in-loop-v invariant_loop decreases_loop
+bounds-sizes-v-in-loop-v c = omega (arith, c.requires.0.few, c.requires.1.fast_few)
 
-mul-run : tie.Need-overflow_mul-run invariant_loop decreases_loop
-mul-run c =
+overflow_mul-run : tie.Need-overflow_mul-run invariant_loop decreases_loop
+overflow_mul-run c =
     let s = c.args in
     let p = c.requires in
     let l = c.loop-v in
@@ -70,14 +70,14 @@ mul-run c =
     let m : l.run * w ≤ 128 * w = mul-le-mul_right w f.1 in
     omega (arith, c.wide-run.ensures)
 
-add-v : tie.Need-overflow_add-v invariant_loop decreases_loop
-add-v c = omega arith
+overflow_add-v : tie.Need-overflow_add-v invariant_loop decreases_loop
+overflow_add-v c = omega arith
 
-loop_less : tie.Need-loop-v-smaller invariant_loop decreases_loop
-loop_less c = omega arith
+loop-v-smaller : tie.Need-loop-v-smaller invariant_loop decreases_loop
+loop-v-smaller c = omega arith
 
-loop_again : tie.Need-loop-v-preserved invariant_loop decreases_loop
-loop_again c =
+loop-v-preserved : tie.Need-loop-v-preserved invariant_loop decreases_loop
+loop-v-preserved c =
     let s = c.args in
     let p = c.requires in
     let l = c.loop-v in
@@ -107,18 +107,18 @@ lay_fast_spec =
     (tie.spec
     invariant_loop
     decreases_loop
-    loop_holds
-    mul_at
-    add_at
-    mul-at-2
-    array-read-lay-digit
+    loop-v-init
+    overflow_mul-at
+    overflow_add-at
+    overflow_mul-at-in-loop-v
+    bounds-sizes-v
     (λ c κs. search rules)
-    lay-digit-requires
-    array-read-wide
+    lay_digit-requires
+    bounds-sizes-v-in-loop-v
     (λ c κs. search rules)
-    mul-run
-    add-v
-    loop_less
-    loop_again
+    overflow_mul-run
+    overflow_add-v
+    loop-v-smaller
+    loop-v-preserved
     (λ c. search rules)
     returns)

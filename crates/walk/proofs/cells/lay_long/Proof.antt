@@ -15,17 +15,17 @@ invariant_loop cells₀ at lanes run size least chunks digit₀ l₀ cells digit
 abbrev decreases_loop : tie.decreases-loop-l
 decreases_loop cells₀ at lanes run size least chunks digit₀ l₀ cells digit l = lanes - l
 
-add-chunks : tie.Need-overflow_add-chunks invariant_loop decreases_loop
-add-chunks c = omega arith
+overflow_add-chunks : tie.Need-overflow_add-chunks invariant_loop decreases_loop
+overflow_add-chunks c = omega arith
 
-loop_holds : tie.Need-loop-l-init invariant_loop decreases_loop
-loop_holds c = (search rules, running_none _ _ _ _ _ _)
+loop-l-init : tie.Need-loop-l-init invariant_loop decreases_loop
+loop-l-init c = (search rules, running_none _ _ _ _ _ _)
 
-add-fill : tie.Need-overflow_add-at invariant_loop decreases_loop
-add-fill c = omega arith
+overflow_add-at : tie.Need-overflow_add-at invariant_loop decreases_loop
+overflow_add-at c = omega arith
 
-add-fill-2 : tie.Need-overflow_add-digit invariant_loop decreases_loop
-add-fill-2 c = omega (arith, digit_small _ _ _ _ _ _ _ _ _ c.loop-l.invariant.1 (omega arith))
+overflow_add-digit : tie.Need-overflow_add-digit invariant_loop decreases_loop
+overflow_add-digit c = omega (arith, digit_small _ _ _ _ _ _ _ _ _ c.loop-l.invariant.1 (omega arith))
 
 fill-requires : tie.Need-fill-requires invariant_loop decreases_loop
 fill-requires c κs =
@@ -35,17 +35,17 @@ fill-requires c κs =
     let g = run_fits s.lanes s.run r.runs _ p.3 r.runs_are c.loop-l-test.true in
     (omega arith, omega arith)
 
-add-l : tie.Need-overflow_add-l invariant_loop decreases_loop
-add-l c = omega arith
+overflow_add-l : tie.Need-overflow_add-l invariant_loop decreases_loop
+overflow_add-l c = omega arith
 
-following-requires : tie.Need-following-digit-requires invariant_loop decreases_loop
-following-requires c κs = digit_small _ _ _ _ _ _ _ _ _ c.loop-l.invariant.1 (omega arith)
+following-digit-requires : tie.Need-following-digit-requires invariant_loop decreases_loop
+following-digit-requires c κs = digit_small _ _ _ _ _ _ _ _ _ c.loop-l.invariant.1 (omega arith)
 
-loop_less : tie.Need-loop-l-smaller invariant_loop decreases_loop
-loop_less c = omega arith
+loop-l-smaller : tie.Need-loop-l-smaller invariant_loop decreases_loop
+loop-l-smaller c = omega arith
 
-loop_again : tie.Need-loop-l-preserved invariant_loop decreases_loop
-loop_again c =
+loop-l-preserved : tie.Need-loop-l-preserved invariant_loop decreases_loop
+loop-l-preserved c =
     let s = c.args in
     let l = c.loop-l in (
       search rules,
@@ -66,14 +66,14 @@ lay_long_spec =
     (tie.spec
     invariant_loop
     decreases_loop
-    add-chunks
-    loop_holds
-    add-fill
-    add-fill-2
+    overflow_add-chunks
+    loop-l-init
+    overflow_add-at
+    overflow_add-digit
     fill-requires
-    add-l
-    following-requires
-    loop_less
-    loop_again
+    overflow_add-l
+    following-digit-requires
+    loop-l-smaller
+    loop-l-preserved
     (λ c. search rules)
     returns)

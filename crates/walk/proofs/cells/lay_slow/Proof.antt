@@ -18,31 +18,31 @@ invariant_loop variables parts digits to cells₀ j₀ cells j =
 abbrev decreases_loop : tie.decreases-loop-j
 decreases_loop variables parts digits to cells₀ j₀ cells j = to - j
 
-loop_holds : tie.Need-loop-j-init invariant_loop decreases_loop
-loop_holds c = (record { laid = λ j h. absurd (omega arith); outside = λ i h. refl }, omega arith, search rules)
+loop-j-init : tie.Need-loop-j-init invariant_loop decreases_loop
+loop-j-init c = (record { laid = λ j h. absurd (omega arith); outside = λ i h. refl }, omega arith, search rules)
 
-add-v : tie.Need-overflow_add-v invariant_loop decreases_loop
-add-v c = omega arith
+overflow_add-v : tie.Need-overflow_add-v invariant_loop decreases_loop
+overflow_add-v c = omega arith
 
-mul_at : tie.Need-overflow_mul-at invariant_loop decreases_loop
-mul_at c = omega arith
+overflow_mul-at : tie.Need-overflow_mul-at invariant_loop decreases_loop
+overflow_mul-at c = omega arith
 
-add_at : tie.Need-overflow_add-at invariant_loop decreases_loop
-add_at c = omega arith
+overflow_add-at : tie.Need-overflow_add-at invariant_loop decreases_loop
+overflow_add-at c = omega arith
 
-mul-at-2 : tie.Need-overflow_mul-at-in-loop-j invariant_loop decreases_loop
-mul-at-2 c =
+overflow_mul-at-in-loop-j : tie.Need-overflow_mul-at-in-loop-j invariant_loop decreases_loop
+overflow_mul-at-in-loop-j c =
     let s = c.args in
     let j = c.loop-j.j in
     let S = 16 * s.parts.chunks in
     let m : S * (2 + (s.parts.fast + j)) ≤ S * 42 = mul-le-mul_left S (omega arith) in
     omega arith
 
-shared-slice-read-fill : tie.Need-bounds-digits-j invariant_loop decreases_loop
-shared-slice-read-fill c = omega arith
+bounds-digits-j : tie.Need-bounds-digits-j invariant_loop decreases_loop
+bounds-digits-j c = omega arith
 
-add-fill : tie.Need-overflow_add-digits invariant_loop decreases_loop
-add-fill c =
+overflow_add-digits : tie.Need-overflow_add-digits invariant_loop decreases_loop
+overflow_add-digits c =
     let s = c.args in
     let j = c.loop-j.j in
     omega (
@@ -61,14 +61,14 @@ fill-requires c κs =
     let e : S * (3 + (s.parts.fast + j)) ≡ S * (2 + (s.parts.fast + j)) + S = omega arith in
     (omega arith, omega arith)
 
-add-j : tie.Need-overflow_add-j invariant_loop decreases_loop
-add-j c = omega arith
+overflow_add-j : tie.Need-overflow_add-j invariant_loop decreases_loop
+overflow_add-j c = omega arith
 
-loop_less : tie.Need-loop-j-smaller invariant_loop decreases_loop
-loop_less c = omega arith
+loop-j-smaller : tie.Need-loop-j-smaller invariant_loop decreases_loop
+loop-j-smaller c = omega arith
 
-loop_again : tie.Need-loop-j-preserved invariant_loop decreases_loop
-loop_again c =
+loop-j-preserved : tie.Need-loop-j-preserved invariant_loop decreases_loop
+loop-j-preserved c =
     let s = c.args in
     let l = c.loop-j in (
       slow_more (16 * s.parts.chunks) s.variables s.parts.fast s.digits.now l.j s.cells.now l.cells _ l.invariant.0 _
@@ -91,17 +91,17 @@ lay_slow_spec =
     (tie.spec
     invariant_loop
     decreases_loop
-    loop_holds
-    add-v
-    mul_at
-    add_at
-    mul-at-2
-    shared-slice-read-fill
+    loop-j-init
+    overflow_add-v
+    overflow_mul-at
+    overflow_add-at
+    overflow_mul-at-in-loop-j
+    bounds-digits-j
     (λ c κs. search rules)
-    add-fill
+    overflow_add-digits
     fill-requires
-    add-j
-    loop_less
-    loop_again
+    overflow_add-j
+    loop-j-smaller
+    loop-j-preserved
     (λ c. search rules)
     returns)

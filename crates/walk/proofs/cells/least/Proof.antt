@@ -3,15 +3,15 @@ use Rattle.walk.proofs.Filling.{least_one, least_zero}
 use Rattle.walk.proofs.cells.least.Statement.{statement}
 use Rattle.walk.proofs.cells.least.Tie as tie
 
-returns : tie.Need-returns-then-v-variables
-returns c = least_one _ _ c.if-v-variables.true
+returns-then-v-variables : tie.Need-returns-then-v-variables
+returns-then-v-variables c = least_one _ _ c.if-v-variables.true
 
-returns_2 : tie.Need-returns
-returns_2 c = least_zero _ _ c.if-v-variables.false
+returns : tie.Need-returns
+returns c = least_zero _ _ c.if-v-variables.false
 
 pub least_spec : {M : Type 1} → statement M
 least_spec =
     tie.close
     (tie.spec
-    returns
-    returns_2)
+    returns-then-v-variables
+    returns)

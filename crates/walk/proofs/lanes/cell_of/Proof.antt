@@ -7,14 +7,14 @@ use Rattle.walk.proofs.Solving.{place_small}
 use Rattle.walk.proofs.lanes.cell_of.Statement.{statement}
 use Rattle.walk.proofs.lanes.cell_of.Tie as tie
 
-mul-result : tie.Need-overflow_mul-result
-mul-result c = let p = c.requires in omega arith
+overflow_mul-result : tie.Need-overflow_mul-result
+overflow_mul-result c = let p = c.requires in omega arith
 
-add-result : tie.Need-overflow_add-result
-add-result c = let p = c.requires in let e = c.number.ensures in omega arith
+overflow_add-result : tie.Need-overflow_add-result
+overflow_add-result c = let p = c.requires in let e = c.number.ensures in omega arith
 
-mul-result-2 : tie.Need-overflow_mul-result-2
-mul-result-2 c =
+overflow_mul-result-2 : tie.Need-overflow_mul-result-2
+overflow_mul-result-2 c =
     let s = c.before.before.before in
     let p = s.requires in
     let e = c.number.ensures in
@@ -28,10 +28,10 @@ pub cell_of_spec : {M : Type 1} → statement M
 cell_of_spec =
     tie.close
     (tie.spec
-    mul-result
+    overflow_mul-result
     (λ c. search rules)
     (λ c. search rules)
     (λ c κs. search rules)
-    add-result
-    mul-result-2
+    overflow_add-result
+    overflow_mul-result-2
     returns)

@@ -5,15 +5,15 @@ use Rattle.walk.proofs.Laying.{chosen_is}
 use Rattle.walk.proofs.lanes.equal.Statement.{statement}
 use Rattle.walk.proofs.lanes.equal.Tie as tie
 
-returns : tie.Need-returns-then-x-y
-returns c = sym (chosen_is c.args.x c.args.y 1 0 1 (λ _. refl) (λ n. absurd (n c.if-x-y.true)))
+returns-then-x-y : tie.Need-returns-then-x-y
+returns-then-x-y c = sym (chosen_is c.args.x c.args.y 1 0 1 (λ _. refl) (λ n. absurd (n c.if-x-y.true)))
 
-returns_2 : tie.Need-returns
-returns_2 c = sym (chosen_is c.args.x c.args.y 1 0 0 (λ e. absurd (c.if-x-y.false e)) (λ _. refl))
+returns : tie.Need-returns
+returns c = sym (chosen_is c.args.x c.args.y 1 0 0 (λ e. absurd (c.if-x-y.false e)) (λ _. refl))
 
 pub equal_spec : {M : Type 1} → statement M
 equal_spec =
     tie.close
     (tie.spec
-    returns
-    returns_2)
+    returns-then-x-y
+    returns)

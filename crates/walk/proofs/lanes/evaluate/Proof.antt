@@ -15,21 +15,21 @@ invariant_loop branches from nodes chunks cells₀ wide at₀ m₀ cells at m =
 abbrev decreases_loop : tie.decreases-loop-m
 decreases_loop branches from nodes chunks cells₀ wide at₀ m₀ cells at m = nodes - m
 
-mul_wide : tie.Need-overflow_mul-wide invariant_loop decreases_loop
-mul_wide c = let p = c.requires in omega arith
+overflow_mul-wide : tie.Need-overflow_mul-wide invariant_loop decreases_loop
+overflow_mul-wide c = let p = c.requires in omega arith
 
-add_at : tie.Need-overflow_add-at invariant_loop decreases_loop
-add_at c = let p = c.requires in omega arith
+overflow_add-at : tie.Need-overflow_add-at invariant_loop decreases_loop
+overflow_add-at c = let p = c.requires in omega arith
 
-mul_at : tie.Need-overflow_mul-at invariant_loop decreases_loop
-mul_at c =
+overflow_mul-at : tie.Need-overflow_mul-at invariant_loop decreases_loop
+overflow_mul-at c =
     let s = c.before.before in
     let p = s.requires in
     let u = place_small (16 * s.args.chunks) s.args.from s.args.nodes (omega arith) (omega arith) (omega arith) in
     omega arith
 
-loop_holds : tie.Need-loop-m-init invariant_loop decreases_loop
-loop_holds c =
+loop-m-init : tie.Need-loop-m-init invariant_loop decreases_loop
+loop-m-init c =
     let s = c.before.before in
     let p = s.requires in
     (omega arith, omega arith, refl, refl, refl, solves_none (16 * s.args.chunks) s.args.branches.now s.args.from s.args.cells.now)
@@ -55,8 +55,8 @@ solve-requires c κs =
       reads_before S l.m l.at _ _ e b.apart_is r.apart,
     )
 
-add-at-2 : tie.Need-overflow_add-at-in-loop-m invariant_loop decreases_loop
-add-at-2 c =
+overflow_add-at-in-loop-m : tie.Need-overflow_add-at-in-loop-m invariant_loop decreases_loop
+overflow_add-at-in-loop-m c =
     let s = c.before.before.before.before.before.before.before.before.before in
     let l = c.loop-m in
     let p = s.requires in
@@ -65,14 +65,14 @@ add-at-2 c =
     let u = place_small (16 * s.args.chunks) l.m s.args.nodes (omega arith) (omega arith) (omega arith) in
     omega arith
 
-add-m : tie.Need-overflow_add-m invariant_loop decreases_loop
-add-m c = let p = c.requires in omega arith
+overflow_add-m : tie.Need-overflow_add-m invariant_loop decreases_loop
+overflow_add-m c = let p = c.requires in omega arith
 
-loop_less : tie.Need-loop-m-smaller invariant_loop decreases_loop
-loop_less c = omega arith
+loop-m-smaller : tie.Need-loop-m-smaller invariant_loop decreases_loop
+loop-m-smaller c = omega arith
 
-loop_again : tie.Need-loop-m-preserved invariant_loop decreases_loop
-loop_again c =
+loop-m-preserved : tie.Need-loop-m-preserved invariant_loop decreases_loop
+loop-m-preserved c =
     let s = c.before.before.before.before.before.before.before.before.before in
     let l = c.loop-m in
     let p = s.requires in
@@ -88,8 +88,8 @@ loop_again c =
           s.args.cells.now l.invariant.0 (λ j h. s.requires.5 j (omega arith)) l.invariant.5,
     )
 
-same_length : tie.Need-shape_of-cells invariant_loop decreases_loop
-same_length c = c.loop-m.invariant.4
+shape_of-cells : tie.Need-shape_of-cells invariant_loop decreases_loop
+shape_of-cells c = c.loop-m.invariant.4
 
 returns : tie.Need-returns invariant_loop decreases_loop
 returns c =
@@ -105,15 +105,15 @@ evaluate_spec =
     (tie.spec
     invariant_loop
     decreases_loop
-    mul_wide
-    add_at
-    mul_at
-    loop_holds
+    overflow_mul-wide
+    overflow_add-at
+    overflow_mul-at
+    loop-m-init
     stored-requires
     solve-requires
-    add-at-2
-    add-m
-    loop_less
-    loop_again
-    same_length
+    overflow_add-at-in-loop-m
+    overflow_add-m
+    loop-m-smaller
+    loop-m-preserved
+    shape_of-cells
     returns)

@@ -16,17 +16,17 @@ invariant_loop cells at many count₀ lane₀ count lane = FalsesAre cells at la
 abbrev decreases_loop : tie.decreases-loop-lane
 decreases_loop cells at many count₀ lane₀ count lane = many - lane
 
-loop_holds : tie.Need-loop-lane-init invariant_loop decreases_loop
-loop_holds c = (record { few = omega arith; none = λ e l h. absurd (omega arith) }, omega arith)
+loop-lane-init : tie.Need-loop-lane-init invariant_loop decreases_loop
+loop-lane-init c = (record { few = omega arith; none = λ e l h. absurd (omega arith) }, omega arith)
 
-add-equal : tie.Need-overflow_add-at invariant_loop decreases_loop
-add-equal c = omega arith
+overflow_add-at : tie.Need-overflow_add-at invariant_loop decreases_loop
+overflow_add-at c = omega arith
 
-shared-slice-read-equal : tie.Need-bounds-cells-at invariant_loop decreases_loop
-shared-slice-read-equal c = omega arith
+bounds-cells-at : tie.Need-bounds-cells-at invariant_loop decreases_loop
+bounds-cells-at c = omega arith
 
-add-count : tie.Need-overflow_add-count invariant_loop decreases_loop
-add-count c =
+overflow_add-count : tie.Need-overflow_add-count invariant_loop decreases_loop
+overflow_add-count c =
     let few = c.loop-lane.invariant.0.few in
     let l = c.loop-lane.lane in
     let s = c.before.before.before.before.before in
@@ -34,14 +34,14 @@ add-count c =
     let p = c.requires in
     omega arith
 
-add-lane : tie.Need-overflow_add-lane invariant_loop decreases_loop
-add-lane c = omega arith
+overflow_add-lane : tie.Need-overflow_add-lane invariant_loop decreases_loop
+overflow_add-lane c = omega arith
 
-loop_less : tie.Need-loop-lane-smaller invariant_loop decreases_loop
-loop_less c = omega arith
+loop-lane-smaller : tie.Need-loop-lane-smaller invariant_loop decreases_loop
+loop-lane-smaller c = omega arith
 
-loop_again : tie.Need-loop-lane-preserved invariant_loop decreases_loop
-loop_again c = (falses_more _ _ _ _ _ c.loop-lane.invariant.0 c.equal-count.ensures, omega arith)
+loop-lane-preserved : tie.Need-loop-lane-preserved invariant_loop decreases_loop
+loop-lane-preserved c = (falses_more _ _ _ _ _ c.loop-lane.invariant.0 c.equal-count.ensures, omega arith)
 
 returns : tie.Need-returns invariant_loop decreases_loop
 returns c =
@@ -55,12 +55,12 @@ falses_spec =
     (tie.spec
     invariant_loop
     decreases_loop
-    loop_holds
-    add-equal
-    shared-slice-read-equal
+    loop-lane-init
+    overflow_add-at
+    bounds-cells-at
     (λ c κs. search rules)
-    add-count
-    add-lane
-    loop_less
-    loop_again
+    overflow_add-count
+    overflow_add-lane
+    loop-lane-smaller
+    loop-lane-preserved
     returns)

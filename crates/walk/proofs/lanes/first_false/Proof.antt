@@ -14,32 +14,32 @@ invariant_loop cells at many l₀ l = (k : ℕ) → k < l → get_or cells (at +
 abbrev decreases_loop : tie.decreases-loop-l
 decreases_loop cells at many l₀ l = many - l
 
-returns : tie.Need-returns-then-falses-eq0 invariant_loop decreases_loop
-returns c = record { inside = omega arith; before = c.falses.ensures.none c.if-falses-eq0.true; there = λ h. absurd (omega arith) }
+returns-then-falses-eq0 : tie.Need-returns-then-falses-eq0 invariant_loop decreases_loop
+returns-then-falses-eq0 c = record { inside = omega arith; before = c.falses.ensures.none c.if-falses-eq0.true; there = λ h. absurd (omega arith) }
 
-loop_holds : tie.Need-loop-l-init invariant_loop decreases_loop
-loop_holds c = λ k h. absurd (omega arith)
+loop-l-init : tie.Need-loop-l-init invariant_loop decreases_loop
+loop-l-init c = λ k h. absurd (omega arith)
 
-add-if2 : tie.Need-overflow_add-at invariant_loop decreases_loop
-add-if2 c = let p = c.requires in omega arith
+overflow_add-at : tie.Need-overflow_add-at invariant_loop decreases_loop
+overflow_add-at c = let p = c.requires in omega arith
 
-shared-slice-read-if2 : tie.Need-bounds-cells-at invariant_loop decreases_loop
-shared-slice-read-if2 c = let p = c.requires in omega arith
+bounds-cells-at : tie.Need-bounds-cells-at invariant_loop decreases_loop
+bounds-cells-at c = let p = c.requires in omega arith
 
-returns_2 : tie.Need-returns-then-cells-at-eq0 invariant_loop decreases_loop
-returns_2 c = record { inside = omega arith; before = c.loop-l.invariant; there = λ h. c.if-cells-at-eq0.true }
+returns-then-cells-at-eq0 : tie.Need-returns-then-cells-at-eq0 invariant_loop decreases_loop
+returns-then-cells-at-eq0 c = record { inside = omega arith; before = c.loop-l.invariant; there = λ h. c.if-cells-at-eq0.true }
 
-add-l : tie.Need-overflow_add-l invariant_loop decreases_loop
-add-l c = omega arith
+overflow_add-l : tie.Need-overflow_add-l invariant_loop decreases_loop
+overflow_add-l c = omega arith
 
-loop_less : tie.Need-loop-l-smaller invariant_loop decreases_loop
-loop_less c = omega arith
+loop-l-smaller : tie.Need-loop-l-smaller invariant_loop decreases_loop
+loop-l-smaller c = omega arith
 
-loop_again : tie.Need-loop-l-preserved invariant_loop decreases_loop
-loop_again c = below_more _ _ c.loop-l.invariant c.if-cells-at-eq0.false
+loop-l-preserved : tie.Need-loop-l-preserved invariant_loop decreases_loop
+loop-l-preserved c = below_more _ _ c.loop-l.invariant c.if-cells-at-eq0.false
 
-returns_3 : tie.Need-returns invariant_loop decreases_loop
-returns_3 c = record { inside = omega arith; before = λ l h. c.loop-l.invariant l (omega arith); there = λ h. absurd (omega arith) }
+returns : tie.Need-returns invariant_loop decreases_loop
+returns c = record { inside = omega arith; before = λ l h. c.loop-l.invariant l (omega arith); there = λ h. absurd (omega arith) }
 
 pub first_false_spec : {M : Type 1} → statement M
 first_false_spec =
@@ -48,12 +48,12 @@ first_false_spec =
     invariant_loop
     decreases_loop
     (λ c κs. search rules)
-    returns
-    loop_holds
-    add-if2
-    shared-slice-read-if2
-    returns_2
-    add-l
-    loop_less
-    loop_again
-    returns_3)
+    returns-then-falses-eq0
+    loop-l-init
+    overflow_add-at
+    bounds-cells-at
+    returns-then-cells-at-eq0
+    overflow_add-l
+    loop-l-smaller
+    loop-l-preserved
+    returns)

@@ -14,44 +14,44 @@ invariant_loop cells left right same apart lanes₀ l₀ lanes l = Picking cells
 abbrev decreases_loop : tie.decreases-loop-l
 decreases_loop cells left right same apart lanes₀ l₀ lanes l = 16 - l
 
-loop_holds : tie.Need-loop-l-init invariant_loop decreases_loop
-loop_holds c = picks_none _ _ _ _ _ _ refl
+loop-l-init : tie.Need-loop-l-init invariant_loop decreases_loop
+loop-l-init c = picks_none _ _ _ _ _ _ refl
 
-add-taken : tie.Need-overflow_add-left invariant_loop decreases_loop
-add-taken c = omega arith
+overflow_add-left : tie.Need-overflow_add-left invariant_loop decreases_loop
+overflow_add-left c = omega arith
 
-shared-slice-read-taken : tie.Need-bounds-cells-left invariant_loop decreases_loop
-shared-slice-read-taken c = omega arith
+bounds-cells-left : tie.Need-bounds-cells-left invariant_loop decreases_loop
+bounds-cells-left c = omega arith
 
-add-taken-2 : tie.Need-overflow_add-right invariant_loop decreases_loop
-add-taken-2 c = omega arith
+overflow_add-right : tie.Need-overflow_add-right invariant_loop decreases_loop
+overflow_add-right c = omega arith
 
-shared-slice-read-taken-2 : tie.Need-bounds-cells-right invariant_loop decreases_loop
-shared-slice-read-taken-2 c = omega arith
+bounds-cells-right : tie.Need-bounds-cells-right invariant_loop decreases_loop
+bounds-cells-right c = omega arith
 
-add-taken-3 : tie.Need-overflow_add-same invariant_loop decreases_loop
-add-taken-3 c = omega arith
+overflow_add-same : tie.Need-overflow_add-same invariant_loop decreases_loop
+overflow_add-same c = omega arith
 
-shared-slice-read-taken-3 : tie.Need-bounds-cells-same invariant_loop decreases_loop
-shared-slice-read-taken-3 c = omega arith
+bounds-cells-same : tie.Need-bounds-cells-same invariant_loop decreases_loop
+bounds-cells-same c = omega arith
 
-add-taken-4 : tie.Need-overflow_add-apart invariant_loop decreases_loop
-add-taken-4 c = omega arith
+overflow_add-apart : tie.Need-overflow_add-apart invariant_loop decreases_loop
+overflow_add-apart c = omega arith
 
-shared-slice-read-taken-4 : tie.Need-bounds-cells-apart invariant_loop decreases_loop
-shared-slice-read-taken-4 c = omega arith
+bounds-cells-apart : tie.Need-bounds-cells-apart invariant_loop decreases_loop
+bounds-cells-apart c = omega arith
 
-array-write-lanes : tie.Need-bounds-lanes-l invariant_loop decreases_loop
-array-write-lanes c = omega arith
+bounds-lanes-l : tie.Need-bounds-lanes-l invariant_loop decreases_loop
+bounds-lanes-l c = omega arith
 
-add-l : tie.Need-overflow_add-l invariant_loop decreases_loop
-add-l c = omega arith
+overflow_add-l : tie.Need-overflow_add-l invariant_loop decreases_loop
+overflow_add-l c = omega arith
 
-loop_less : tie.Need-loop-l-smaller invariant_loop decreases_loop
-loop_less c = omega arith
+loop-l-smaller : tie.Need-loop-l-smaller invariant_loop decreases_loop
+loop-l-smaller c = omega arith
 
-loop_again : tie.Need-loop-l-preserved invariant_loop decreases_loop
-loop_again c =
+loop-l-preserved : tie.Need-loop-l-preserved invariant_loop decreases_loop
+loop-l-preserved c =
     let l = c.loop-l in
     picks_more _ _ _ _ _ _ _ _ l.invariant (omega arith) c.taken.ensures
 
@@ -64,18 +64,18 @@ pick_spec =
     (tie.spec
     invariant_loop
     decreases_loop
-    loop_holds
-    add-taken
-    shared-slice-read-taken
-    add-taken-2
-    shared-slice-read-taken-2
-    add-taken-3
-    shared-slice-read-taken-3
-    add-taken-4
-    shared-slice-read-taken-4
+    loop-l-init
+    overflow_add-left
+    bounds-cells-left
+    overflow_add-right
+    bounds-cells-right
+    overflow_add-same
+    bounds-cells-same
+    overflow_add-apart
+    bounds-cells-apart
     (λ c κs. search rules)
-    array-write-lanes
-    add-l
-    loop_less
-    loop_again
+    bounds-lanes-l
+    overflow_add-l
+    loop-l-smaller
+    loop-l-preserved
     returns)

@@ -15,26 +15,26 @@ invariant_loop cells₀ at branch chunks h₀ cells h =
 abbrev decreases_loop : tie.decreases-loop-h
 decreases_loop cells₀ at branch chunks h₀ cells h = chunks - h
 
-loop_holds : tie.Need-loop-h-init invariant_loop decreases_loop
-loop_holds c = (omega arith, refl, record { inside = λ l g. absurd (omega arith); outside = λ i g. refl })
+loop-h-init : tie.Need-loop-h-init invariant_loop decreases_loop
+loop-h-init c = (omega arith, refl, record { inside = λ l g. absurd (omega arith); outside = λ i g. refl })
 
-mul-off : tie.Need-overflow_mul-off invariant_loop decreases_loop
-mul-off c = omega arith
+overflow_mul-off : tie.Need-overflow_mul-off invariant_loop decreases_loop
+overflow_mul-off c = omega arith
 
-add-pick : tie.Need-overflow_add-branch invariant_loop decreases_loop
-add-pick c = let p = c.requires in omega arith
+overflow_add-branch : tie.Need-overflow_add-branch invariant_loop decreases_loop
+overflow_add-branch c = let p = c.requires in omega arith
 
-add-pick-2 : tie.Need-overflow_add-branch-in-loop-h invariant_loop decreases_loop
-add-pick-2 c = let p = c.requires in omega arith
+overflow_add-branch-in-loop-h : tie.Need-overflow_add-branch-in-loop-h invariant_loop decreases_loop
+overflow_add-branch-in-loop-h c = let p = c.requires in omega arith
 
-add-pick-3 : tie.Need-overflow_add-branch-in-loop-h-2 invariant_loop decreases_loop
-add-pick-3 c = let p = c.requires in omega arith
+overflow_add-branch-in-loop-h-2 : tie.Need-overflow_add-branch-in-loop-h-2 invariant_loop decreases_loop
+overflow_add-branch-in-loop-h-2 c = let p = c.requires in omega arith
 
-add-pick-4 : tie.Need-overflow_add-branch-in-loop-h-3 invariant_loop decreases_loop
-add-pick-4 c = let p = c.requires in omega arith
+overflow_add-branch-in-loop-h-3 : tie.Need-overflow_add-branch-in-loop-h-3 invariant_loop decreases_loop
+overflow_add-branch-in-loop-h-3 c = let p = c.requires in omega arith
 
-pick-requires : tie.Need-pick-lanes-requires invariant_loop decreases_loop
-pick-requires c κs =
+pick-lanes-requires : tie.Need-pick-lanes-requires invariant_loop decreases_loop
+pick-lanes-requires c κs =
     let s = c.before.before.before.before.before.before.before in
     let l = c.loop-h in
     let p = s.requires in
@@ -45,11 +45,11 @@ pick-requires c κs =
     let e : s.args.branch.apart + 16 * l.h + 16 ≤ length l.cells = omega arith in
     (a, b, d, e)
 
-add-put-lanes : tie.Need-overflow_add-at invariant_loop decreases_loop
-add-put-lanes c = let p = c.requires in omega arith
+overflow_add-at : tie.Need-overflow_add-at invariant_loop decreases_loop
+overflow_add-at c = let p = c.requires in omega arith
 
-put-lanes-requires : tie.Need-put_lanes-requires invariant_loop decreases_loop
-put-lanes-requires c κs =
+put_lanes-requires : tie.Need-put_lanes-requires invariant_loop decreases_loop
+put_lanes-requires c κs =
     let s = c.before.before.before.before.before.before.before.before.before in
     let l = c.loop-h in
     let p = s.requires in
@@ -57,14 +57,14 @@ put-lanes-requires c κs =
     let a : s.args.at + 16 * l.h + 16 ≤ length l.cells = omega arith in
     a
 
-add-h : tie.Need-overflow_add-h invariant_loop decreases_loop
-add-h c = omega arith
+overflow_add-h : tie.Need-overflow_add-h invariant_loop decreases_loop
+overflow_add-h c = omega arith
 
-loop_less : tie.Need-loop-h-smaller invariant_loop decreases_loop
-loop_less c = omega arith
+loop-h-smaller : tie.Need-loop-h-smaller invariant_loop decreases_loop
+loop-h-smaller c = omega arith
 
-loop_again : tie.Need-loop-h-preserved invariant_loop decreases_loop
-loop_again c =
+loop-h-preserved : tie.Need-loop-h-preserved invariant_loop decreases_loop
+loop-h-preserved c =
     let s = c.before.before.before.before.before.before.before.before.before.before.before.before in
     let l = c.loop-h in
     let p = s.requires in (
@@ -74,8 +74,8 @@ loop_again c =
           c.pick-lanes.ensures c.put_lanes.ensures (omega arith) (omega arith) (omega arith) (omega arith),
     )
 
-same_length : tie.Need-shape_of-cells invariant_loop decreases_loop
-same_length c = c.loop-h.invariant.1
+shape_of-cells : tie.Need-shape_of-cells invariant_loop decreases_loop
+shape_of-cells c = c.loop-h.invariant.1
 
 returns : tie.Need-returns invariant_loop decreases_loop
 returns c =
@@ -90,17 +90,17 @@ solve_spec =
     (tie.spec
     invariant_loop
     decreases_loop
-    loop_holds
-    mul-off
-    add-pick
-    add-pick-2
-    add-pick-3
-    add-pick-4
-    pick-requires
-    add-put-lanes
-    put-lanes-requires
-    add-h
-    loop_less
-    loop_again
-    same_length
+    loop-h-init
+    overflow_mul-off
+    overflow_add-branch
+    overflow_add-branch-in-loop-h
+    overflow_add-branch-in-loop-h-2
+    overflow_add-branch-in-loop-h-3
+    pick-lanes-requires
+    overflow_add-at
+    put_lanes-requires
+    overflow_add-h
+    loop-h-smaller
+    loop-h-preserved
+    shape_of-cells
     returns)

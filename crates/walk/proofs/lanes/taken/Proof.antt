@@ -6,26 +6,26 @@ use Rattle.walk.proofs.Laying.{is_bit, bit_small, bit_times, rest_times, sum_cho
 use Rattle.walk.proofs.lanes.taken.Statement.{statement}
 use Rattle.walk.proofs.lanes.taken.Tie as tie
 
-mul-result : tie.Need-overflow_mul-result
-mul-result c =
+overflow_mul-result : tie.Need-overflow_mul-result
+overflow_mul-result c =
     let a = c.args in
     let e = c.equal-e.result in
     omega (arith, bit_times e a.same (is_bit a.x a.y e c.equal-e.ensures), c.ranges.same)
 
-sub-result : tie.Need-overflow_sub-result
-sub-result c =
+overflow_sub-result : tie.Need-overflow_sub-result
+overflow_sub-result c =
     let a = c.args in
     let e = c.equal-e.result in
     omega (arith, bit_small e (is_bit a.x a.y e c.equal-e.ensures))
 
-mul-result-2 : tie.Need-overflow_mul-result-2
-mul-result-2 c =
+overflow_mul-result-2 : tie.Need-overflow_mul-result-2
+overflow_mul-result-2 c =
     let a = c.args in
     let e = c.equal-e.result in
     omega (arith, rest_times e a.apart (is_bit a.x a.y e c.equal-e.ensures), c.ranges.apart)
 
-add-result : tie.Need-overflow_add-result
-add-result c =
+overflow_add-result : tie.Need-overflow_add-result
+overflow_add-result c =
     let a = c.args in
     omega (arith, sum_small a.x a.y c.equal-e.result a.same a.apart c.equal-e.ensures (omega arith) (omega arith))
 
@@ -39,8 +39,8 @@ taken_spec =
     tie.close
     (tie.spec
     (λ c κs. search rules)
-    mul-result
-    sub-result
-    mul-result-2
-    add-result
+    overflow_mul-result
+    overflow_sub-result
+    overflow_mul-result-2
+    overflow_add-result
     returns)

@@ -9,18 +9,18 @@ use Rattle.walk.proofs.Solving.{place_small, place_fits, copies_more}
 use Rattle.walk.proofs.lanes.values_of.Statement.{statement}
 use Rattle.walk.proofs.lanes.values_of.Tie as tie
 
-abbrev invariant_loop : tie.invariant-loop-k
-invariant_loop cells positions nodes chunks lane values₀ k₀ values k =
+abbrev invariant-loop-k : tie.invariant-loop-k
+invariant-loop-k cells positions nodes chunks lane values₀ k₀ values k =
     (k ≤ nodes) × (length values ≡ length values₀) × LaneCopied (16 * chunks) (positions_in positions) cells lane k values
 
 abbrev decreases_loop : tie.decreases-loop-k
 decreases_loop cells positions nodes chunks lane values₀ k₀ values k = nodes - k
 
-loop_holds : tie.Need-loop-k-init invariant_loop decreases_loop
-loop_holds c = (omega arith, refl, record { copied = λ j h. absurd (omega arith) })
+loop-k-init : tie.Need-loop-k-init invariant-loop-k decreases_loop
+loop-k-init c = (omega arith, refl, record { copied = λ j h. absurd (omega arith) })
 
-cell-of-requires : tie.Need-cell_of-requires invariant_loop decreases_loop
-cell-of-requires c κs =
+cell_of-requires : tie.Need-cell_of-requires invariant-loop-k decreases_loop
+cell_of-requires c κs =
     let s = c.before.before.before.before.before in
     let p = s.requires in
     let o = p.0 in
@@ -28,8 +28,8 @@ cell-of-requires c κs =
     let low = o.inside c.loop-k.k c.loop-k-test.true in
     (omega arith, omega arith, omega arith)
 
-add-values : tie.Need-overflow_add-values invariant_loop decreases_loop
-add-values c =
+overflow_add-values : tie.Need-overflow_add-values invariant-loop-k decreases_loop
+overflow_add-values c =
     let s = c.before.before.before.before.before.before in
     let p = s.requires in
     let low = p.0.inside c.loop-k.k c.loop-k-test.true in
@@ -37,8 +37,8 @@ add-values c =
     let u = place_small (16 * s.args.chunks) (get_or s.args.positions.now c.loop-k.k 0) 2632 (omega arith) (omega arith) (omega arith) in
     omega arith
 
-shared-slice-read-values : tie.Need-bounds-cells-cell_of invariant_loop decreases_loop
-shared-slice-read-values c =
+bounds-cells-cell_of : tie.Need-bounds-cells-cell_of invariant-loop-k decreases_loop
+bounds-cells-cell_of c =
     let s = c.before.before.before.before.before.before.before in
     let p = s.requires in
     let low = p.0.inside c.loop-k.k c.loop-k-test.true in
@@ -46,17 +46,17 @@ shared-slice-read-values c =
     let u = place_fits (16 * s.args.chunks) (get_or s.args.positions.now c.loop-k.k 0) s.args.nodes (length s.args.cells.now) c.cell_of.result e low p.3 in
     omega arith
 
-slice-write-values : tie.Need-bounds-values-k invariant_loop decreases_loop
-slice-write-values c = let long = c.loop-k.invariant.1 in let p = c.requires in omega arith
+bounds-values-k : tie.Need-bounds-values-k invariant-loop-k decreases_loop
+bounds-values-k c = let long = c.loop-k.invariant.1 in let p = c.requires in omega arith
 
-add-k : tie.Need-overflow_add-k invariant_loop decreases_loop
-add-k c = let p = c.requires in omega arith
+overflow_add-k : tie.Need-overflow_add-k invariant-loop-k decreases_loop
+overflow_add-k c = let p = c.requires in omega arith
 
-loop_less : tie.Need-loop-k-smaller invariant_loop decreases_loop
-loop_less c = omega arith
+loop-k-smaller : tie.Need-loop-k-smaller invariant-loop-k decreases_loop
+loop-k-smaller c = omega arith
 
-loop_again : tie.Need-loop-k-preserved invariant_loop decreases_loop
-loop_again c =
+loop-k-preserved : tie.Need-loop-k-preserved invariant-loop-k decreases_loop
+loop-k-preserved c =
     let s = c.before.before.before.before.before.before.before in
     let l = c.loop-k in
     let p = s.requires in
@@ -67,10 +67,10 @@ loop_again c =
           (ap (λ i. get_or s.args.cells.now (i + s.args.lane) 0) c.cell_of.ensures),
     )
 
-same_length : tie.Need-shape_of-values invariant_loop decreases_loop
-same_length c = c.loop-k.invariant.1
+shape_of-values : tie.Need-shape_of-values invariant-loop-k decreases_loop
+shape_of-values c = c.loop-k.invariant.1
 
-returns : tie.Need-returns invariant_loop decreases_loop
+returns : tie.Need-returns invariant-loop-k decreases_loop
 returns c =
     let s = c.before.before.before.before.before in
     let l = c.loop-k in
@@ -81,15 +81,15 @@ pub values_of_spec : {M : Type 1} → statement M
 values_of_spec =
     tie.close
     (tie.spec
-    invariant_loop
+    invariant-loop-k
     decreases_loop
-    loop_holds
-    cell-of-requires
-    add-values
-    shared-slice-read-values
-    slice-write-values
-    add-k
-    loop_less
-    loop_again
-    same_length
+    loop-k-init
+    cell_of-requires
+    overflow_add-values
+    bounds-cells-cell_of
+    bounds-values-k
+    overflow_add-k
+    loop-k-smaller
+    loop-k-preserved
+    shape_of-values
     returns)

@@ -13,20 +13,20 @@ invariant_loop nodes most count sizes fast₀ lanes₀ fast lanes = Splitting si
 abbrev decreases_loop : tie.decreases-loop-fast
 decreases_loop nodes most count sizes fast₀ lanes₀ fast lanes = count - fast
 
-most-chunks-requires : tie.Need-most_chunks-most-requires invariant_loop decreases_loop
-most-chunks-requires c κs = c.requires.1
+most_chunks-most-requires : tie.Need-most_chunks-most-requires invariant_loop decreases_loop
+most_chunks-most-requires c κs = c.requires.1
 
-mul_most : tie.Need-overflow_mul-most invariant_loop decreases_loop
-mul_most c = let m = c.most_chunks-most.ensures in omega arith
+overflow_mul-most : tie.Need-overflow_mul-most invariant_loop decreases_loop
+overflow_mul-most c = let m = c.most_chunks-most.ensures in omega arith
 
-loop_holds : tie.Need-loop-fast-init invariant_loop decreases_loop
-loop_holds c = splits_none _ _ _ (let m = c.most_chunks-most.ensures in omega arith)
+loop-fast-init : tie.Need-loop-fast-init invariant_loop decreases_loop
+loop-fast-init c = splits_none _ _ _ (let m = c.most_chunks-most.ensures in omega arith)
 
-array-read-wide : tie.Need-bounds-sizes-fast invariant_loop decreases_loop
-array-read-wide c = let t = c.requires.0 in let few = t.few in let long = t.sizes_long in omega arith
+bounds-sizes-fast : tie.Need-bounds-sizes-fast invariant_loop decreases_loop
+bounds-sizes-fast c = let t = c.requires.0 in let few = t.few in let long = t.sizes_long in omega arith
 
-mul-more : tie.Need-overflow_mul-more invariant_loop decreases_loop
-mul-more c =
+overflow_mul-more : tie.Need-overflow_mul-more invariant_loop decreases_loop
+overflow_mul-more c =
     let t = c.requires.0 in
     let l = c.loop-fast in
     let m = c.most_chunks-most.ensures in
@@ -37,21 +37,21 @@ mul-more c =
 parted-requires : tie.Need-parted-requires invariant_loop decreases_loop
 parted-requires c κs = let m = c.most_chunks-most.ensures in let f = c.loop-fast.invariant.fit in omega arith
 
-returns : tie.Need-returns-then-most-more invariant_loop decreases_loop
-returns c =
+returns-then-most-more : tie.Need-returns-then-most-more invariant_loop decreases_loop
+returns-then-most-more c =
     let s = c.before.before.before.before.before.before.before in
     let m = c.most_chunks-most.ensures in
     let r = c.parted.ensures in
     splits_all s.args.all s.requires.0 _ _ _ c.loop-fast.invariant s.args.nodes _ refl m.1 m.2 c.parted.result r.0 r.1 r.2 r.3
 
-add-fast : tie.Need-overflow_add-fast invariant_loop decreases_loop
-add-fast c = let t = c.requires.0 in let few = t.few in omega arith
+overflow_add-fast : tie.Need-overflow_add-fast invariant_loop decreases_loop
+overflow_add-fast c = let t = c.requires.0 in let few = t.few in omega arith
 
-loop_less : tie.Need-loop-fast-smaller invariant_loop decreases_loop
-loop_less c = omega arith
+loop-fast-smaller : tie.Need-loop-fast-smaller invariant_loop decreases_loop
+loop-fast-smaller c = omega arith
 
-loop_again : tie.Need-loop-fast-preserved invariant_loop decreases_loop
-loop_again c =
+loop-fast-preserved : tie.Need-loop-fast-preserved invariant_loop decreases_loop
+loop-fast-preserved c =
     let s = c.before.before.before.before.before.before in
     let l = c.loop-fast in
     splits_more s.args.all s.requires.0 _ _ _ l.invariant c.loop-fast-test.true _ (ap (λ x. l.lanes * x) c.wide.ensures.0) c.if-most-more.false
@@ -59,8 +59,8 @@ loop_again c =
 parted-requires-2 : tie.Need-parted-requires-2 invariant_loop decreases_loop
 parted-requires-2 c κs = let m = c.most_chunks-most.ensures in let f = c.loop-fast.invariant.fit in omega arith
 
-returns_2 : tie.Need-returns invariant_loop decreases_loop
-returns_2 c =
+returns : tie.Need-returns invariant_loop decreases_loop
+returns c =
     let s = c.before.before.before.before.before in
     let m = c.most_chunks-most.ensures in
     let r = c.parted-2.ensures in
@@ -72,16 +72,16 @@ split_spec =
     (tie.spec
     invariant_loop
     decreases_loop
-    most-chunks-requires
-    mul_most
-    loop_holds
-    array-read-wide
+    most_chunks-most-requires
+    overflow_mul-most
+    loop-fast-init
+    bounds-sizes-fast
     (λ c κs. search rules)
-    mul-more
+    overflow_mul-more
     parted-requires
-    returns
-    add-fast
-    loop_less
-    loop_again
+    returns-then-most-more
+    overflow_add-fast
+    loop-fast-smaller
+    loop-fast-preserved
     parted-requires-2
-    returns_2)
+    returns)

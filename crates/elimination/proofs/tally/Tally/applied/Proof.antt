@@ -6,13 +6,13 @@ use Rattle.elimination.proofs.Tallying.{tallied_predicate}
 use Rattle.elimination.proofs.tally.Tally.applied.Statement.{statement}
 use Rattle.elimination.proofs.tally.Tally.applied.Tie as tie
 
-returns : tie.Need-returns-then-op-eq0
-returns c =
+returns-then-op-eq0 : tie.Need-returns-then-op-eq0
+returns-then-op-eq0 c =
     let a = c.args in
     ap (λ op. tallied a.self op a.nodes) (sym c.if-op-eq0.true)
 
-returns_2 : tie.Need-returns
-returns_2 c =
+returns : tie.Need-returns
+returns c =
     let a = c.args in
     tallied_predicate a.self a.op a.nodes c.if-op-eq0.false
 
@@ -22,6 +22,6 @@ applied_spec =
     (tie.spec
     (λ c. search rules)
     (λ c. search rules)
-    returns
+    returns-then-op-eq0
     (λ c. search rules)
-    returns_2)
+    returns)

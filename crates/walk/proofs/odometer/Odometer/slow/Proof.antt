@@ -13,29 +13,29 @@ invariant_loop fast all count sizes₀ j₀ sizes j = (j ≤ count) × Taking fa
 abbrev decreases_loop : tie.decreases-loop-j
 decreases_loop fast all count sizes₀ j₀ sizes j = count - j
 
-sub-count : tie.Need-overflow_sub-count invariant_loop decreases_loop
-sub-count c = let p = c.requires.1 in omega arith
+overflow_sub-count : tie.Need-overflow_sub-count invariant_loop decreases_loop
+overflow_sub-count c = let p = c.requires.1 in omega arith
 
-loop_holds : tie.Need-loop-j-init invariant_loop decreases_loop
-loop_holds c = (omega arith, taking_none _ _)
+loop-j-init : tie.Need-loop-j-init invariant_loop decreases_loop
+loop-j-init c = (omega arith, taking_none _ _)
 
-add-sizes : tie.Need-overflow_add-sizes invariant_loop decreases_loop
-add-sizes c = let p = c.requires in let few = p.0.few in omega arith
+overflow_add-sizes : tie.Need-overflow_add-sizes invariant_loop decreases_loop
+overflow_add-sizes c = let p = c.requires in let few = p.0.few in omega arith
 
-array-read-sizes : tie.Need-bounds-all-fast invariant_loop decreases_loop
-array-read-sizes c = let p = c.requires in let few = p.0.few in let long = p.0.sizes_long in omega arith
+bounds-all-fast : tie.Need-bounds-all-fast invariant_loop decreases_loop
+bounds-all-fast c = let p = c.requires in let few = p.0.few in let long = p.0.sizes_long in omega arith
 
-array-write-sizes : tie.Need-bounds-sizes-j invariant_loop decreases_loop
-array-write-sizes c = let p = c.requires in let few = p.0.few in let long = c.loop-j.invariant.1.long in omega arith
+bounds-sizes-j : tie.Need-bounds-sizes-j invariant_loop decreases_loop
+bounds-sizes-j c = let p = c.requires in let few = p.0.few in let long = c.loop-j.invariant.1.long in omega arith
 
-add-j : tie.Need-overflow_add-j invariant_loop decreases_loop
-add-j c = let p = c.requires in let few = p.0.few in omega arith
+overflow_add-j : tie.Need-overflow_add-j invariant_loop decreases_loop
+overflow_add-j c = let p = c.requires in let few = p.0.few in omega arith
 
-loop_less : tie.Need-loop-j-smaller invariant_loop decreases_loop
-loop_less c = omega arith
+loop-j-smaller : tie.Need-loop-j-smaller invariant_loop decreases_loop
+loop-j-smaller c = omega arith
 
-loop_again : tie.Need-loop-j-preserved invariant_loop decreases_loop
-loop_again c =
+loop-j-preserved : tie.Need-loop-j-preserved invariant_loop decreases_loop
+loop-j-preserved c =
     let p = c.requires in
     let few = p.0.few in
     (omega arith, taking_more _ _ _ _ c.loop-j.invariant.1 (omega arith))
@@ -53,12 +53,12 @@ slow_spec =
     (tie.spec
     invariant_loop
     decreases_loop
-    sub-count
-    loop_holds
-    add-sizes
-    array-read-sizes
-    array-write-sizes
-    add-j
-    loop_less
-    loop_again
+    overflow_sub-count
+    loop-j-init
+    overflow_add-sizes
+    bounds-all-fast
+    bounds-sizes-j
+    overflow_add-j
+    loop-j-smaller
+    loop-j-preserved
     returns)
