@@ -1,6 +1,6 @@
 -- A node renumbered, field by field; and the reached nodes laid in order, each with the numbers of those before it. Assumes nothing.
 use mathlib.Core.Path.{◌≡◌, refl, sym, ap, ap₂, ◌∙◌, subst}
-use Prim.Native.Nat.{ℕ, zero, suc, ◌+◌, ◌*◌, ◌≤◌, ◌<◌}
+use Prim.Native.Nat.{ℕ, zero, suc, ◌+◌, ◌≤◌, ◌<◌}
 use native.Mathlib.Omega.{arith}
 use mathlib.Core.Bool.{Bool, true, false, cond}
 use mathlib.Core.Logic.{inl, inr}
@@ -10,10 +10,9 @@ use lib.ListN.{length, get_or, set, take, length-map, length-set, get_or-eq_defa
 use lib.Seq.{take_all, take-suc, get_or-take, length-take-le, get_or-set_same, get_or-set_other}
 use lib.Dec.{ltb}
 use borrow.Author.Tests.{ltb-true, ltb-false}
-use Rattle.definitions.specs.Bytes.{byte_at, two_at}
 use Rattle.definitions.specs.Lists.{snoc}
 use Rattle.definitions.specs.Problem.Node.{Node, node, no_node, table_bytes}
-use Rattle.definitions.specs.Problem.Ops.{operands_of}
+use Rattle.definitions.specs.Problem.Ops.{operands_of, sorts_of, count_of, fields_of}
 use Rattle.definitions.specs.Problem.Check.{symbol_count, node_count, symbols_of, nodes_of, first_wrong}
 use Rattle.definitions.specs.Problem.Asked.{number_in, renumbered}
 use Rattle.definitions.specs.Operations.Buffers.{over}
@@ -25,56 +24,79 @@ use Rattle.theorems.proofs.Asked.Numbers.{none_below, count}
 use Rattle.theorems.proofs.Asked.Trimmed.{earlier, scan, length_trimmed, reached_few, reached_number, trimmed_of}
 use Rattle.theorems.proofs.Asked.Marks.{mark, one, number_next}
 use Rattle.theorems.proofs.Asked.Formed.{Named, cut_right}
-use Rattle.problem.specs.declared.head.Header.{Header}
-use Rattle.problem.specs.Shape.{Shaped}
 use Rattle.problem.specs.Lays.{Lays}
-use Rattle.problem.proofs.NodeLaws.{node_stands}
 use Rattle.asked.specs.Reached.{operands_at, reached_of}
 use Rattle.asked.specs.Trimming.{renamed, trim_of}
-use Rattle.asked.proofs.Operands.{operand_stands, operand_earlier}
+use Rattle.asked.proofs.Operands.{uses_length, operand_earlier}
 
 map_at : (f : ℕ → ℕ) (xs : List ℕ) (j : ℕ) → j < length xs → get_or (map f xs) j 0 ≡ f (get_or xs j 0)
 map_at f [] j h = absurd (omega arith)
 map_at f (x ∷ xs) zero h = refl
 map_at f (x ∷ xs) (suc j) h = map_at f xs j (omega arith)
 
-module _ {s : List ℕ} {h : Header} (w : Shaped s h) (l : Layout s) (k : ℕ) (here : k < h.nodes) (at : ℕ) (e : at ≡ 8 + h.symbols + 8 * k) where
+module _ {s : List ℕ} (l : Layout s) (k : ℕ) (here : k < node_count s) where
+  abbrev n : Node
+  n = node (nodes_of s) k
+
   abbrev ops : List ℕ
   ops = operands_at s k
 
+  abbrev used : ℕ
+  used = count_of (sorts_of (symbols_of s) n)
+
   -- operand j is a number of one byte
-  pub operand_small : (j place used : ℕ) → place ≡ at + 2 + 2 * j → used ≡ length ops → ltb j used ≡ true → two_at s place < 256
-  operand_small j place used p u t =
+  pub operand_small : (j : ℕ) → ltb j used ≡ true → get_or (fields_of n) j 0 < 256
+  operand_small j t =
+      let long = uses_length l k here in
       let i : j < length ops = (let b = ltb-true j used t in omega arith) in
-      let few = w.few_nodes in
-      let x = operand_earlier w l k here j i in
-      let y = operand_stands w l k here j at e i in
-      let z = ap (two_at s) p in
+      let few = l.few_nodes in
+      let x = operand_earlier l k here j i in
+      let y = get_or-take used (fields_of n) j 0 (ltb-true j used t) in
       omega arith
 
   -- its number, where the field is in use
-  pub operand_renamed : (numbers : List ℕ) (j place used x : ℕ) → place ≡ at + 2 + 2 * j → used ≡ length ops
-      → x ≡ cond (ltb j used) (get_or numbers (two_at s place) 0) 0 → x ≡ get_or (map (λ o. get_or numbers o 0) ops) j 0
-  operand_renamed numbers j place used x p u q = go (ltb j used) refl q
+  pub operand_renamed : (numbers : List ℕ) (j : ℕ)
+      → cond (ltb j used) (get_or numbers (get_or (fields_of n) j 0) 0) 0 ≡ get_or (map (λ o. get_or numbers o 0) ops) j 0
+  operand_renamed numbers j = go (ltb j used) refl
     where
-      go : (b : Bool) → ltb j used ≡ b → x ≡ cond b (get_or numbers (two_at s place) 0) 0 → x ≡ get_or (map (λ o. get_or numbers o 0) ops) j 0
-      go true t v =
+      go : (b : Bool) → ltb j used ≡ b → cond b (get_or numbers (get_or (fields_of n) j 0) 0) 0 ≡ get_or (map (λ o. get_or numbers o 0) ops) j 0
+      go true t =
+          let long = uses_length l k here in
           let i : j < length ops = (let b = ltb-true j used t in omega arith) in
-          v ∙ ap (λ (o : ℕ). get_or numbers o 0) (ap (two_at s) p ∙ sym (operand_stands w l k here j at e i))
+          ap (λ (o : ℕ). get_or numbers o 0) (sym (get_or-take used (fields_of n) j 0 (ltb-true j used t)))
           ∙ sym (map_at (λ o. get_or numbers o 0) ops j i)
-      go false t v =
+      go false t =
+          let long = uses_length l k here in
           let past : length (map (λ o. get_or numbers o 0) ops) ≤ j =
           (let b = ltb-false j used t in let m = length-map ops (λ o. get_or numbers o 0) in omega arith)
           in
-          v ∙ sym (get_or-eq_default (map (λ o. get_or numbers o 0) ops) 0 past)
+          sym (get_or-eq_default (map (λ o. get_or numbers o 0) ops) 0 past)
 
-  -- the node renumbered, field by field
-  pub node_renamed : (numbers : List ℕ) (a b c : ℕ) → a ≡ get_or (map (λ o. get_or numbers o 0) ops) 0 0
-      → b ≡ get_or (map (λ o. get_or numbers o 0) ops) 1 0 → c ≡ get_or (map (λ o. get_or numbers o 0) ops) 2 0
-      → ◌≡◌ {A = Node} (record { op = byte_at s at; sym = byte_at s (at + 1); a = a; b = b; c = c }) (renamed numbers s k)
-  node_renamed numbers a b c p q r =
-      let stands = node_stands w k at e here in
-      λ i. record { op = (sym stands i).op; sym = (sym stands i).sym; a = p i; b = q i; c = r i }
+  -- of the node as it is read
+  module _ (m : Node) (e : m ≡ n) (u : ℕ) (is : u ≡ count_of (sorts_of (symbols_of s) m)) where
+    counted : u ≡ used
+    counted = is ∙ ap (λ (x : Node). count_of (sorts_of (symbols_of s) x)) e
+
+    pub read_small : (j : ℕ) → ltb j u ≡ true → get_or (fields_of m) j 0 < 256
+    read_small j t =
+        subst (λ (x : Node). get_or (fields_of x) j 0 < 256) (sym e) (operand_small j (sym (ap (ltb j) counted) ∙ t))
+
+    read_renamed : (numbers : List ℕ) (j x : ℕ) → x ≡ cond (ltb j u) (get_or numbers (get_or (fields_of m) j 0) 0) 0
+        → x ≡ get_or (map (λ o. get_or numbers o 0) ops) j 0
+    read_renamed numbers j x p =
+        p ∙ ap₂ (λ (v : ℕ) (y : Node). cond (ltb j v) (get_or numbers (get_or (fields_of y) j 0) 0) 0) counted e ∙ operand_renamed numbers j
+
+    pub node_renamed : (numbers : List ℕ) (a b c : ℕ) → a ≡ cond (ltb 0 u) (get_or numbers m.a 0) 0
+        → b ≡ cond (ltb 1 u) (get_or numbers m.b 0) 0 → c ≡ cond (ltb 2 u) (get_or numbers m.c 0) 0
+        → ◌≡◌ {A = Node} (record { op = m.op; sym = m.sym; a = a; b = b; c = c }) (renamed numbers s k)
+    node_renamed numbers a b c p q r =
+        λ i. record {
+          op = (e i).op;
+          sym = (e i).sym;
+          a = read_renamed numbers 0 a p i;
+          b = read_renamed numbers 1 b q i;
+          c = read_renamed numbers 2 c r i;
+        }
 
 -- before node k is looked at: each node below k has its number, and those of them that are reached are laid
 pub record Laying (s : List ℕ) (root : ℕ) (nodes₀ nodes numbers : List ℕ) (count k : ℕ) : Type 0 where

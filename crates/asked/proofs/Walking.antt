@@ -13,7 +13,7 @@ use borrow.Author.Tests.{eqb-true, eq-eqb}
 use Rattle.definitions.specs.Lists.{snoc}
 use Rattle.definitions.specs.Problem.Node.{Node, node, no_node}
 use Rattle.definitions.specs.Problem.Ops.{operands_of}
-use Rattle.definitions.specs.Problem.Check.{symbols_of, nodes_of, first_wrong}
+use Rattle.definitions.specs.Problem.Check.{node_count, symbols_of, nodes_of, first_wrong}
 use Rattle.definitions.specs.Problem.Asked.{wanted_below}
 use Rattle.theorems.proofs.Accepted.{Layout}
 use Rattle.theorems.proofs.Laws.Tests.{split, same_test}
@@ -21,8 +21,6 @@ use Rattle.theorems.proofs.Laws.Ops.{AllBelow}
 use Rattle.theorems.proofs.Asked.Reach.{reaches}
 use Rattle.theorems.proofs.Asked.Marks.{mark, mark_append, marked_below, stays_marked, marks_found}
 use Rattle.theorems.proofs.Asked.Trimmed.{wrong_take, earlier}
-use Rattle.problem.specs.declared.head.Header.{Header}
-use Rattle.problem.specs.Shape.{Shaped}
 use Rattle.problem.proofs.NodeLaws.{length_nodes_of}
 use Rattle.asked.specs.Reached.{operands_at, reached_of, Marked, MarksAre, Reaching}
 
@@ -54,7 +52,7 @@ pub record Walking (s : List ℕ) (root : ℕ) (marks : List ℕ) (count k : ℕ
       ≡ marked_below (symbols_of s) (take (suc root) (nodes_of s)) (suc root) (root ∷ [])
   found : count + length (wanted_below (symbols_of s) (take (suc root) (nodes_of s)) k wanted) ≡ length (reached_of s root)
 
-module _ {s : List ℕ} {h : Header} (w : Shaped s h) (l : Layout s) (root : ℕ) (inside : root < h.nodes) where
+module _ {s : List ℕ} (l : Layout s) (root : ℕ) (inside : root < node_count s) where
   abbrev symbols : List ℕ
   symbols = symbols_of s
 
@@ -62,10 +60,10 @@ module _ {s : List ℕ} {h : Header} (w : Shaped s h) (l : Layout s) (root : ℕ
   cut = take (suc root) (nodes_of s)
 
   cut_length : length cut ≡ suc root
-  cut_length = length-take-le (suc root) (nodes_of s) (omega (arith, length_nodes_of w))
+  cut_length = length-take-le (suc root) (nodes_of s) (omega (arith, length_nodes_of s))
 
   cut_right : first_wrong symbols [] cut ≡ none
-  cut_right = wrong_take symbols (suc root) (nodes_of s) (omega (arith, length_nodes_of w)) l.nodes_right
+  cut_right = wrong_take symbols (suc root) (nodes_of s) (omega (arith, length_nodes_of s)) l.nodes_right
 
   lower : (k : ℕ) → k < length cut → AllBelow k (operands_of symbols (node cut k))
   lower = earlier symbols cut cut_right
@@ -82,7 +80,7 @@ module _ {s : List ℕ} {h : Header} (w : Shaped s h) (l : Layout s) (root : ℕ
 
   pub walk_begins : (marks : List ℕ) → marks ≡ replicate 256 0 → Walking s root (set marks root 1) 0 (root + 1)
   walk_begins marks e =
-      let few = w.few_nodes in
+      let few = l.few_nodes in
       let one : root + 1 ≡ suc root = omega arith in
       let long : length marks ≡ 256 = ap length e ∙ length-replicate {A = ℕ} 256 0 in
       record {
@@ -103,7 +101,7 @@ module _ {s : List ℕ} {h : Header} (w : Shaped s h) (l : Layout s) (root : ℕ
           go : (b : Bool) → eqb j root ≡ b → get_or (set m root 1) j 0 ≡ cond (b || false) 1 0
           go true q =
               ap (λ (k : ℕ). get_or (set m root 1) k 0) (eqb-true j root q)
-              ∙ get_or-set_same m root 1 0 (let few = w.few_nodes in omega arith)
+              ∙ get_or-set_same m root 1 0 (let few = l.few_nodes in omega arith)
           go false q =
               get_or-set_other m root j 1 0 (λ p. true≢false (sym (eq-eqb j root p) ∙ q))
               ∙ ap (λ (xs : List ℕ). get_or xs j 0) e ∙ get_d_zeros 256 j
@@ -113,7 +111,7 @@ module _ {s : List ℕ} {h : Header} (w : Shaped s h) (l : Layout s) (root : ℕ
       → Marked (operands_at s k) marks marks' → length marks' ≡ 256 → Walking s root marks' (count + 1) k
   walk_marked marks marks' count k v one m long =
       let in-range = v.within in
-      let few = w.few_nodes in
+      let few = l.few_nodes in
       let here : mark v.wanted k ≡ true = cond_one (mark v.wanted k) (sym (v.marked k (omega arith)) ∙ one) in
       let ops : List ℕ = operands_of symbols (node cut k) in
       let more = wanted_below symbols cut k (ops ++ v.wanted) in
@@ -141,7 +139,7 @@ module _ {s : List ℕ} {h : Header} (w : Shaped s h) (l : Layout s) (root : ℕ
   pub walk_passed : (marks : List ℕ) (count k : ℕ) → Walking s root marks count (suc k) → (get_or marks k 0 ≡ 1 → ⊥) → Walking s root marks count k
   walk_passed marks count k v other =
       let in-range = v.within in
-      let few = w.few_nodes in
+      let few = l.few_nodes in
       let away : mark v.wanted k ≡ false = cond_other (mark v.wanted k) (λ e. other (v.marked k (omega arith) ∙ e)) in
       let ops : List ℕ = operands_of symbols (node cut k) in
       let same =

@@ -1,11 +1,9 @@
 -- The bytes of the problem asked, piece by piece as they are laid (02, E2). Assumes nothing.
-use Rattle.std.specs.Prelude.{◌≡◌, ℕ, suc, ◌+◌, ◌*◌, List, map, get_or, take}
+use Rattle.std.specs.Prelude.{ℕ, suc, List, map, get_or, take}
 use Rattle.definitions.specs.Problem.Node.{Node, node}
 use Rattle.definitions.specs.Problem.Check.{symbols_of, nodes_of}
-use Rattle.definitions.specs.Problem.Asked.{trimmed, asked}
-use Rattle.problem.specs.declared.head.Header.{Header}
+use Rattle.definitions.specs.Problem.Asked.{trimmed}
 use Rattle.problem.specs.Nodes.{front_bytes}
-use Rattle.problem.specs.Shape.{Shaped}
 use Rattle.asked.specs.Reached.{operands_at}
 
 -- the nodes of the problem asked
@@ -22,8 +20,3 @@ renamed numbers s k =
     let ks = map (λ o. get_or numbers o 0) (operands_at s k) in
     let n = node (nodes_of s) k in
     record { op = n.op; sym = n.sym; a = get_or ks 0 0; b = get_or ks 1 0; c = get_or ks 2 0 }
-
--- the problem asked stands at the start of a buffer, and this is its header
-pub record Trims (s : List ℕ) (root : ℕ) (room : List ℕ) (h : Header) : Type 0 where
-  pub bytes : take (8 + h.symbols + 8 * h.nodes) room ≡ asked s root
-  pub shape : Shaped (asked s root) h

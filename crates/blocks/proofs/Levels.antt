@@ -7,6 +7,7 @@ use mathlib.Core.Bool.{Bool, true, false, ◌&&◌, false≢true}
 use mathlib.Core.List.{List, [], ◌∷◌}
 use lib.ListN.{length}
 use Rattle.definitions.specs.Problem.Node.{Node}
+use Rattle.theorems.proofs.Laws.Tests.{and_left, and_right}
 use Rattle.theorems.proofs.Tables.Free.{Free}
 use Rattle.blocks.specs.Sets.{depends}
 use Rattle.blocks.specs.Levels.{first_of, moves, level_of}
@@ -57,14 +58,6 @@ first_same_lem f g n h =
     let b = first_less g f n (λ v e. h v ∙ e) in
     omega arith
 
-and_first : (a b : Bool) → a && b ≡ true → a ≡ true
-and_first true b e = refl
-and_first false b e = absurd (false≢true e)
-
-and_second : (a b : Bool) → a && b ≡ true → b ≡ true
-and_second true b e = e
-and_second false b e = absurd (false≢true e)
-
 and_more : (a b c : Bool) → (a ≡ true → c ≡ true) → a && b ≡ true → c && b ≡ true
 and_more true b c h e = ap (λ x. x && b) (h refl) ∙ e
 and_more false b c h e = absurd (false≢true e)
@@ -81,7 +74,7 @@ module _ (N P : ℕ) (t : List Node) (free : Free N P t) (F : ℕ) (sizes : List
   level_is k h =
       let l = level_of N F sizes t k in
       let e = first_passes (λ u. depends N t k u && moves F sizes u) 64 h in
-      (and_first (depends N t k l) (moves F sizes l) e, and_second (depends N t k l) (moves F sizes l) e)
+      (and_left (depends N t k l) (moves F sizes l) e, and_right (depends N t k l) (moves F sizes l) e)
 
   each_level : (k : ℕ) (ks : List ℕ) → ((v : ℕ) → Each (λ j. depends N t j v ≡ true → depends N t k v ≡ true) ks)
       → Each (λ j. level_of N F sizes t k ≤ level_of N F sizes t j) ks

@@ -6,6 +6,7 @@ use mathlib.Core.List.{List, [], ◌∷◌}
 use mathlib.Core.Option.{Option, none, some}
 use lib.ListN.{length}
 use borrow.Author.Tests.{lt-ltb, le-ltb}
+use Rattle.std.specs.Prelude.{Ok, Err}
 use Rattle.definitions.specs.Lists.{first_of}
 use Rattle.definitions.specs.Problem.Node.{table_bytes}
 use Rattle.definitions.specs.Problem.Check.{Refused, refuse, refuse_if}
@@ -52,7 +53,7 @@ module _ (budget : ℕ) (s : List ℕ) (root : ℕ) (work witness : List ℕ) wh
     early_witness = rw e
 
   pub decide_refused : (r : Refusal) → buffers_refusal s root (length work) (length witness) ≡ some (refusal_read r)
-      → DecidePromise budget root s work witness (Decision.Refused r) work witness
+      → DecidePromise budget root s work witness (Err r) work witness
   decide_refused r e =
       record {
         answers = early_answered (refusal_read r) e;
@@ -91,7 +92,7 @@ module _
       w ∙ ap (λ (b : List ℕ). over (table_bytes (table_of b)) work) (sym A.problem)
       ∙ sym (ap (λ (o : Option Refused). unless_refused o work (over (table_bytes (table_of (asked s root))) work)) e)
 
-  pub decide_big : 10 ^ 18 < product a → DecidePromise budget root s work witness (Decision.Refused Refusal.BigProduct) work' witness
+  pub decide_big : 10 ^ 18 < product a → DecidePromise budget root s work witness (Err Refusal.BigProduct) work' witness
   decide_big h =
       let q = ap (λ (b : Bool). first_of (refuse_if b 13 ∷ [])) (lt-ltb (10 ^ 18) (product a) h) in
       record {
@@ -101,7 +102,7 @@ module _
       }
 
   pub decide_searched : product a ≤ 10 ^ 18 → {r : Decision} {witness' : List ℕ} → SearchIs budget a witness r witness'
-      → DecidePromise budget root s work witness r work' witness'
+      → DecidePromise budget root s work witness (Ok r) work' witness'
   decide_searched h x =
       let q = ap (λ (b : Bool). first_of (refuse_if b 13 ∷ [])) (le-ltb (10 ^ 18) (product a) h) in
       record {

@@ -1,5 +1,5 @@
 pub mod Beginning
 pub mod Deciding
 pub mod RowLaws
-pub mod SearchLaws
 pub mod WitnessLaws
+pub mod SearchLaws

@@ -1,10 +1,11 @@
 -- The row of a distinct application at a place, from the values that the code has at hand. Assumes nothing.
 use mathlib.Core.Path.{◌≡◌, refl, sym, ap, ◌∙◌, subst}
-use Prim.Native.Nat.{ℕ, zero, suc, ◌+◌, ◌-◌, ◌<◌}
+use Prim.Native.Nat.{ℕ, zero, suc, ◌-◌, ◌<◌}
 use native.Mathlib.Omega.{arith}
+use Rattle.std.proofs.lemmas.List.{get_or-map, get_or-reverse}
 use native.Mathlib.Nat.{min-le_left, le-min}
 use mathlib.Core.Bool.{Bool, true, cond}
-use mathlib.Core.List.{List, [], ◌∷◌, map, reverse, reverse_aux}
+use mathlib.Core.List.{List, [], ◌∷◌, map, reverse}
 use mathlib.Core.Logic.{inl, inr}
 use mathlib.Core.Option.{none}
 use lib.ListN.{length, get_or, take, length-map, length-take, length-reverse, length-replicate, get_or-eq_default}
@@ -25,8 +26,8 @@ use Rattle.theorems.proofs.Laws.Grown.{length_grown}
 use Rattle.theorems.proofs.Tables.Fixed.{Terms, operands_terms, right_at_lem}
 use Rattle.theorems.proofs.Elimination.OfAssignment.{built, built_value}
 use Rattle.theorems.proofs.Elimination.WellLaid.{AppPlaced, AllPlaced, apps_placed, image_within}
-use Rattle.elimination.specs.State.{state_at, no_app, app_at, Laid, LaidAt, three}
-use Rattle.elimination.proofs.Operands.{map_at}
+use Rattle.elimination.specs.State.{state_at, no_app, app_at, noted, LaidAt, ImagesRead, three}
+use Rattle.elimination.specs.declared.laid.Laid.{Laid}
 use Rattle.elimination.proofs.Promising.{whole_state}
 use Rattle.elimination.proofs.Prefix.{nodes_length, apps_few}
 use Rattle.decision.specs.Rows.{row_of5, no_row, ValuesOf}
@@ -36,27 +37,6 @@ three_at xs zero h = refl
 three_at xs (suc zero) h = refl
 three_at xs (suc (suc zero)) h = refl
 three_at xs (suc (suc (suc j))) h = absurd (omega arith)
-
--- entry i of a list in the other order
-module _ {A : Type 0} (d : A) where
-  behind : (xs ys : List A) (j : ℕ) → get_or (reverse_aux xs ys) (length xs + j) d ≡ get_or ys j d
-  behind [] ys j = ap (λ m. get_or ys m d) (let e : 0 + j ≡ j = omega arith in e)
-  behind (x ∷ xs) ys j =
-      ap (λ m. get_or (reverse_aux xs (x ∷ ys)) m d) (let e : suc (length xs) + j ≡ length xs + suc j = omega arith in e)
-      ∙ behind xs (x ∷ ys) (suc j)
-
-  turned : (xs ys : List A) (i : ℕ) → i < length xs → get_or (reverse_aux xs ys) i d ≡ get_or xs (length xs - suc i) d
-  turned [] ys i h = absurd (omega arith)
-  turned (x ∷ xs) ys i h =
-      elim (split i (length xs)) [
-        | inl b ↦
-            turned xs (x ∷ ys) i b
-            ∙ ap (λ m. get_or (x ∷ xs) m d) (let e : suc (length xs - suc i) ≡ suc (length xs) - suc i = omega arith in e)
-        | inr b ↦
-            ap (λ m. get_or (reverse_aux xs (x ∷ ys)) m d) (let e : i ≡ length xs + 0 = omega arith in e)
-            ∙ behind xs (x ∷ ys) 0
-            ∙ ap (λ m. get_or (x ∷ xs) m d) (let e : 0 ≡ suc (length xs) - suc i = omega arith in e)
-      ]
 
 terms_at : (I : Interpretation) (symbols : List ℕ) (T : List Node) (right : first_wrong symbols [] T ≡ none) (m : ℕ) (ks : List ℕ)
     → Terms I symbols T right m ks → (j : ℕ) → j < length ks
@@ -108,7 +88,7 @@ module _ (s : List ℕ) (ok : Accepted s) where
         let t = terms_at B symbols T right q (operands_of symbols n) (operands_terms B symbols T right q n (omega arith) is_an_app (right_at_lem symbols T q right within)) j h in
         let below = t.0 in
         let here : value_at vs (get_or F.images k 0) ≡ value_at ws k = built_value A symbols T right k (omega arith) in
-        let at : get_or (images_of symbols F.images n) j 0 ≡ get_or F.images k 0 = map_at (λ i. get_or F.images i 0) (operands_of symbols n) j 0 0 h in
+        let at : get_or (images_of symbols F.images n) j 0 ≡ get_or F.images k 0 = get_or-map (λ i. get_or F.images i 0) (operands_of symbols n) j 0 0 h in
         subst (λ m. value_at vs m ≡ number (number_at vs m)) (sym at)
         (here ∙ t.1 ∙ ap (λ (v : Value). number (number_of v)) (sym here))
 
@@ -118,7 +98,7 @@ module _ (s : List ℕ) (ok : Accepted s) where
         let k = get_or (operands_of symbols n) j 0 in
         let below = (terms_at (assignment_at s p) symbols T right q (operands_of symbols n) (operands_terms (assignment_at s p) symbols T right q n (omega arith) is_an_app (right_at_lem symbols T q right within)) j h).0 in
         let inside = image_within symbols T right k (omega arith) in
-        let at : get_or (images_of symbols F.images n) j 0 ≡ get_or F.images k 0 = map_at (λ i. get_or F.images i 0) (operands_of symbols n) j 0 0 h in
+        let at : get_or (images_of symbols F.images n) j 0 ≡ get_or F.images k 0 = get_or-map (λ i. get_or F.images i 0) (operands_of symbols n) j 0 0 h in
         let g = length_grown (node_value (assignment_at s p) []) F.out in
         omega arith
 
@@ -131,7 +111,7 @@ module _ (s : List ℕ) (ok : Accepted s) where
 
     module _ (vals : List ℕ) (are : take (length vs) vals ≡ map byte_of vs) where
       byte_at : (m : ℕ) → m < length vs → get_or vals m 0 ≡ byte_of (value_at vs m)
-      byte_at m h = sym (get_or-take (length vs) vals m 0 h) ∙ ap (λ (xs : List ℕ). get_or xs m 0) are ∙ map_at byte_of vs m (number 0) 0 h
+      byte_at m h = sym (get_or-take (length vs) vals m 0 h) ∙ ap (λ (xs : List ℕ). get_or xs m 0) are ∙ get_or-map byte_of vs m (number 0) 0 h
 
       -- argument j of the row, as the code reads it
       argument_is : (j : ℕ) → j < 3 → (image : ℕ) → image ≡ get_or (images_of symbols F.images n) j 0
@@ -149,20 +129,28 @@ module _ (s : List ℕ) (ok : Accepted s) where
                 ∙ byte_at image (subst (λ m. m < length vs) (sym e) (argument_within j inside))
                 ∙ ap (λ m. byte_of (value_at vs m)) e
                 ∙ ap byte_of (argument_number j inside)
-                ∙ sym (map_at (number_at vs) is j 0 0 (omega arith))
+                ∙ sym (get_or-map (number_at vs) is j 0 0 (omega arith))
             | inr b ↦
                 let few = min-le_left (count_of (sorts_of symbols n)) 3 in
                 ap (λ (b : Bool). cond b (get_or vals image 0) 0) (le-ltb j (arity symbols n.sym) b)
                 ∙ sym (get_or-eq_default (map (number_at vs) is) 0 {n = j} (let l = length-map is (number_at vs) in omega arith))
           ]
 
--- the row of distinct application i, in node order
-module _ (s : List ℕ) (ok : Accepted s) (l : Laid) (laid : LaidAt s (node_count s) l) (i : ℕ) (h : i < l.count) where
-  abbrev q : ℕ
-  q = get_or l.apps i 0
+-- there are at most 40 rows
+pub rows_room : {s : List ℕ} → Accepted s → {l : Laid} → LaidAt s (node_count s) l → {i : ℕ} → i < l.count → i < 40
+rows_room {s} ok laid h = let a = apps_few s ok (node_count s) (omega arith) in let c = laid.count_is in omega arith
 
+-- the row of distinct application i, in node order
+module _ {s : List ℕ} (ok : Accepted s) {l : Laid} (laid : LaidAt s (node_count s) l) {i : ℕ} (h : i < l.count)
+    {q : ℕ} (is_q : q ≡ (noted l i).node) where
   abbrev app : App
   app = app_at s (node_count s) i
+
+  its_node : node (nodes_of s) q ≡ app.of
+  its_node = ap (node (nodes_of s)) is_q ∙ laid.app_of i h
+
+  its_image : get_or l.images q 0 ≡ app.image
+  its_image = ap (λ n. get_or l.images n 0) is_q ∙ laid.app_image i h
 
   count_is : l.count ≡ length (F s ok).apps
   count_is = laid.count_is ∙ ap (λ (st : State). length st.apps) (whole s ok)
@@ -170,7 +158,8 @@ module _ (s : List ℕ) (ok : Accepted s) (l : Laid) (laid : LaidAt s (node_coun
   app_is : get_or (reverse (F s ok).apps) i no_app ≡ app
   app_is =
       let c = count_is in
-      turned no_app (F s ok).apps [] i (omega arith)
+      get_or-reverse (F s ok).apps i no_app (omega arith)
+      ∙ ap (λ m. get_or (F s ok).apps m no_app) (let e : length (F s ok).apps - 1 - i ≡ length (F s ok).apps - suc i = omega arith in e)
       ∙ ap (λ (st : State). get_or st.apps (length st.apps - suc i) no_app) (sym (whole s ok))
 
   placed : AppPlaced (symbols_of s) (nodes_of s) ok.layout.nodes_right app
@@ -184,11 +173,11 @@ module _ (s : List ℕ) (ok : Accepted s) (l : Laid) (laid : LaidAt s (node_coun
   q_within = let n = nodes_length s ok in let b = laid.app_before i h in omega arith
 
   q_app : is_app (op_of (node (nodes_of s) q).op) ≡ true
-  q_app = ap (λ (n : Node). is_app (op_of n.op)) (laid.app_of i h) ∙ placed.is_an_app
+  q_app = ap (λ (n : Node). is_app (op_of n.op)) (its_node) ∙ placed.is_an_app
 
   image_in : get_or l.images q 0 < length (F s ok).out
   image_in =
-      subst (λ m. m < length (F s ok).out) (sym (laid.app_image i h ∙ placed.image_at))
+      subst (λ m. m < length (F s ok).out) (sym (its_image ∙ placed.image_at))
       (image_within (symbols_of s) (nodes_of s) ok.layout.nodes_right placed.at placed.at_node)
 
   nodes_are : l.nodes ≡ length (F s ok).out
@@ -197,17 +186,18 @@ module _ (s : List ℕ) (ok : Accepted s) (l : Laid) (laid : LaidAt s (node_coun
   pub image_fits : get_or l.images q 0 < l.nodes
   image_fits = let many = nodes_are in omega (arith, image_in)
 
-  pub rows_room : i < 40
-  rows_room = let a = apps_few s ok (node_count s) (omega arith) in let c = laid.count_is in omega arith
+  module _ {xs : List ℕ} (images : ImagesRead s l q xs) (p : ℕ) (vals : List ℕ) where
+    images_are : xs ≡ three (images_of (symbols_of s) (state_at s (node_count s)).images (node (nodes_of s) q))
+    images_are =
+        let within = q_within in
+        (images (node_count s) (omega (arith, nodes_length s ok)) (omega arith) laid.images_are).0
 
-  module _ (p : ℕ) (vals : List ℕ) (xs : List ℕ)
-      (images : xs ≡ three (images_of (symbols_of s) (state_at s (node_count s)).images (node (nodes_of s) q))) where
-    abbrev argument : ℕ → ℕ
+    abbrev pub argument : ℕ → ℕ
     argument j = cond (ltb j (arity (symbols_of s) (node (nodes_of s) q).sym)) (get_or vals (get_or xs j 0) 0) 0
 
     image_is : (j : ℕ) → j < 3 → get_or xs j 0 ≡ get_or (images_of (symbols_of s) (F s ok).images (node (nodes_of s) q)) j 0
     image_is j g =
-        ap (λ (ys : List ℕ). get_or ys j 0) images
+        ap (λ (ys : List ℕ). get_or ys j 0) images_are
         ∙ three_at (images_of (symbols_of s) (state_at s (node_count s)).images (node (nodes_of s) q)) j g
         ∙ ap (λ (st : State). get_or (images_of (symbols_of s) st.images (node (nodes_of s) q)) j 0) (whole s ok)
 
@@ -236,28 +226,34 @@ module _ (s : List ℕ) (ok : Accepted s) (l : Laid) (laid : LaidAt s (node_coun
         let is = map (number_at vs) (images_of (symbols_of s) (F s ok).images (node (nodes_of s) q)) in
         let value = byte_of (value_at vs app.image) in
         let there = argument_is s ok q q_within q_app p vals are in
-        map_at (app_row (symbols_of s) (F s ok).images vs) (reverse (F s ok).apps) i no_app no_row
+        get_or-map (app_row (symbols_of s) (F s ok).images vs) (reverse (F s ok).apps) i no_app no_row
         (let r = length-reverse (F s ok).apps in omega arith)
         ∙ ap (app_row (symbols_of s) (F s ok).images vs) app_is
-        ∙ ap (λ (n : Node). row_of n.sym (map (number_at vs) (images_of (symbols_of s) (F s ok).images n)) value) (sym (laid.app_of i h))
+        ∙ ap (λ (n : Node). row_of n.sym (map (number_at vs) (images_of (symbols_of s) (F s ok).images n)) value) (sym its_node)
         ∙ ap (λ x. row_of5 symbol x (get_or is 1 0) (get_or is 2 0) value) (sym (there 0 (omega arith) (get_or xs 0 0) (image_is 0 (omega arith))))
         ∙ ap (λ x. row_of5 symbol (argument 0) x (get_or is 2 0) value) (sym (there 1 (omega arith) (get_or xs 1 0) (image_is 1 (omega arith))))
         ∙ ap (λ x. row_of5 symbol (argument 0) (argument 1) x value) (sym (there 2 (omega arith) (get_or xs 2 0) (image_is 2 (omega arith))))
         ∙ ap (row_of5 symbol (argument 0) (argument 1) (argument 2))
-        (ap (λ m. byte_of (value_at vs m)) (sym (laid.app_image i h))
+        (ap (λ m. byte_of (value_at vs m)) (sym its_image)
         ∙ sym (byte_at s ok q q_within q_app p vals are (get_or l.images q 0)
         (let a = image_in in let g = length_grown (node_value (assignment_at s p) []) (F s ok).out in omega arith)))
 
     -- the row as the code reads it
-    pub row_read_lem : (symbol ar x y z value : ℕ) → symbol ≡ (node (nodes_of s) q).sym → ar ≡ arity (symbols_of s) (node (nodes_of s) q).sym
-        → x ≡ cond (ltb 0 ar) (get_or vals (get_or xs 0 0) 0) 0 → y ≡ cond (ltb 1 ar) (get_or vals (get_or xs 1 0) 0) 0
-        → z ≡ cond (ltb 2 ar) (get_or vals (get_or xs 2 0) 0) 0 → value ≡ get_or vals (get_or l.images q 0) 0 → ValuesOf s p vals
-        → row_of5 symbol x y z value ≡ get_or (rows_at s p) i no_row
-    row_read_lem symbol ar x y z value es ea ex ey ez ev are =
-        let at : (j : ℕ) → cond (ltb j ar) (get_or vals (get_or xs j 0) 0) 0 ≡ argument j = λ j. ap (λ m. cond (ltb j m) (get_or vals (get_or xs j 0) 0) 0) ea in
-        ap (λ m. row_of5 m x y z value) es
-        ∙ ap (λ m. row_of5 (node (nodes_of s) q).sym m y z value) (ex ∙ at 0)
-        ∙ ap (λ m. row_of5 (node (nodes_of s) q).sym (argument 0) m z value) (ey ∙ at 1)
-        ∙ ap (λ m. row_of5 (node (nodes_of s) q).sym (argument 0) (argument 1) m value) (ez ∙ at 2)
-        ∙ ap (λ m. row_of5 (node (nodes_of s) q).sym (argument 0) (argument 1) (argument 2) m) ev
-        ∙ sym (row_is are)
+    module _ {n : Node} (is_node : n ≡ node (nodes_of s) q) {ar : ℕ} (is_arity : ar ≡ arity (symbols_of s) n.sym) where
+      arity_is : ar ≡ arity (symbols_of s) (node (nodes_of s) q).sym
+      arity_is = is_arity ∙ ap (λ (n : Node). arity (symbols_of s) n.sym) is_node
+
+      read : (j : ℕ) → cond (ltb j ar) (get_or vals (get_or xs j 0) 0) 0 ≡ argument j
+      read j = ap (λ m. cond (ltb j m) (get_or vals (get_or xs j 0) 0) 0) arity_is
+
+      pub row_read_lem : {x y z value : ℕ} → x ≡ cond (ltb 0 ar) (get_or vals (get_or xs 0 0) 0) 0
+          → y ≡ cond (ltb 1 ar) (get_or vals (get_or xs 1 0) 0) 0 → z ≡ cond (ltb 2 ar) (get_or vals (get_or xs 2 0) 0) 0
+          → value ≡ get_or vals (get_or l.images q 0) 0 → ValuesOf s p vals
+          → row_of5 n.sym x y z value ≡ get_or (rows_at s p) i no_row
+      row_read_lem {x} {y} {z} {value} ex ey ez ev are =
+          ap (λ (n : Node). row_of5 n.sym x y z value) is_node
+          ∙ ap (λ m. row_of5 (node (nodes_of s) q).sym m y z value) (ex ∙ read 0)
+          ∙ ap (λ m. row_of5 (node (nodes_of s) q).sym (argument 0) m z value) (ey ∙ read 1)
+          ∙ ap (λ m. row_of5 (node (nodes_of s) q).sym (argument 0) (argument 1) m value) (ez ∙ read 2)
+          ∙ ap (λ m. row_of5 (node (nodes_of s) q).sym (argument 0) (argument 1) (argument 2) m) ev
+          ∙ sym (row_is are)

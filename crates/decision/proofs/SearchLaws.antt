@@ -2,50 +2,56 @@
 use mathlib.Core.Path.{◌≡◌, sym, ap, ap₂, ◌∙◌, subst}
 use Prim.Native.Nat.{ℕ, ◌-◌, ◌≤◌, ◌<◌, min}
 use native.Mathlib.Omega.{arith}
-use mathlib.Core.Bool.{Bool, true, false}
+use mathlib.Core.Bool.{Bool}
 use mathlib.Core.List.{List, [], map}
 use lib.ListN.{length, get_or, take, replicate, length-append, length-replicate}
 use lib.Seq.{take_all}
 use Rattle.definitions.specs.Lists.{below, product_of}
 use Rattle.definitions.specs.Problem.Node.{Node}
 use Rattle.definitions.specs.Problem.Check.{node_count, nodes_of, functions_in, predicates_in}
-use Rattle.definitions.specs.Logic.{Value, truth_at, node_value, values}
+use Rattle.definitions.specs.Logic.{Interpretation, Value, truth_at, node_value, values}
 use Rattle.definitions.specs.Elimination.{eliminated, table_of, root_of}
 use Rattle.definitions.specs.Ranges.{rank, joined, tops, sizes, tops_of, sizes_of, product, padded}
 use Rattle.definitions.specs.Places.{digits_at, assignment, values_at, true_at}
 use Rattle.definitions.specs.Verdict.{valid, falsified, stopped, outcome_of}
 use Rattle.definitions.specs.Witness.{byte_of, witness_at}
 use Rattle.definitions.specs.Operations.Buffers.{over}
-use Rattle.definitions.specs.declared.Decision.{Decision}
+use Rattle.definitions.specs.declared.Verdict.{Verdict}
 use Rattle.theorems.proofs.Laws.Ops.{sort_at}
 use Rattle.theorems.proofs.Laws.Grown.{length_grown}
 use Rattle.theorems.proofs.Ranges.Adequate.{length_below}
 use Rattle.theorems.proofs.Truth.{root_within, root_formula}
 use Rattle.theorems.proofs.Fits.{how_many_le}
-use Rattle.theorems.specs.Searched.{AllTrue}
+use Rattle.theorems.specs.Searched.{AllTrue, FirstFalse}
 use Rattle.theorems.proofs.Search.Verdict.{valid_when, falsified_when, stopped_when}
-use Rattle.elimination.specs.State.{Laid, laid_of}
+use Rattle.elimination.specs.declared.laid.Laid.{Laid}
 use Rattle.elimination.proofs.Promising.{nodes_laid_lem, root_laid}
-use Rattle.ranges.specs.Table.{table_in, TableIn, shape_of}
+use Rattle.ranges.specs.Table.{table_in}
 use Rattle.ranges.specs.declared.Shape.{Shape}
 use Rattle.ranges.proofs.TopLaws.{padded_at, take_padded}
-use Rattle.ranges.proofs.Measuring.{table_read, functions_laid, predicates_laid, table_stands}
+use Rattle.ranges.proofs.Measuring.{table_read, functions_laid, predicates_laid}
 use Rattle.walk.specs.Digits.{ValuesAre, sizes_in}
-use Rattle.walk.specs.Walked.{root_true, RootIn, Ends}
+use Rattle.walk.specs.Walked.{root_true, RootIn}
 use Rattle.walk.specs.declared.odometer.Odometer.{Odometer}
 use Rattle.decision.specs.Rows.{ValuesOf}
 use Rattle.decision.specs.Searched.{Laying, SearchIs}
 use Rattle.decision.specs.declared.Scope.{Scope}
 
-module _ {s table images apps : List ℕ} {x : Scope} (L : Laying s table images apps x) where
+module _ {x : Scope} (L : Laying x) where
+  abbrev s : List ℕ
+  s = x.problem.now
+
+  abbrev table : List ℕ
+  table = x.table.bytes.now
+
   abbrev all : Laid
-  all = laid_of images apps L.owns x.all
+  all = x.laid.now
 
   abbrev ts : List ℕ
   ts = x.tops
 
   abbrev shape : Shape
-  shape = shape_of x.all
+  shape = x.table.shape
 
   abbrev places : ℕ
   places = x.product
@@ -57,25 +63,32 @@ module _ {s table images apps : List ℕ} {x : Scope} (L : Laying s table images
   ranks = rank (joined (table_of s) N)
 
   functions_are : shape.variables ≡ N
-  functions_are = functions_laid s L.accepted L.laid
+  functions_are = ap (λ (h : Shape). h.variables) L.shape_is ∙ functions_laid s L.accepted L.laid
 
   predicates_are : shape.truths ≡ predicates_in (nodes_of s)
-  predicates_are = predicates_laid s L.accepted L.laid
+  predicates_are = ap (λ (h : Shape). h.truths) L.shape_is ∙ predicates_laid s L.accepted L.laid
 
-  pub stands : TableIn table shape
-  stands = table_stands s L.accepted L.laid L.table_long
+  nodes_are : shape.nodes ≡ length (table_of s)
+  nodes_are = ap (λ (h : Shape). h.nodes) L.shape_is ∙ nodes_laid_lem s L.accepted L.laid
 
-  pub root_there : (k : ℕ) → k ≡ node_count s → get_or all.images (k - 1) 0 ≡ root_of (eliminated s)
-  root_there k e = ap (λ n. get_or all.images (n - 1) 0) e ∙ root_laid s L.accepted L.laid
+  table_is : table_in table shape.nodes ≡ table_of s
+  table_is = ap (λ (h : Shape). table_in table h.nodes) L.shape_is ∙ table_read s L.accepted L.laid
 
-  pub root_in : (root : ℕ) → root ≡ root_of (eliminated s) → RootIn table shape root
-  root_in root e =
+  -- the root is that of the elimination
+  pub root_is : {nodes root : ℕ} → nodes ≡ node_count s → root ≡ get_or all.images (nodes - 1) 0 → root ≡ root_of (eliminated s)
+  root_is k e = e ∙ ap (λ n. get_or all.images (n - 1) 0) k ∙ root_laid s L.accepted L.laid
+
+  pub root_in : {root : ℕ} → root ≡ root_of (eliminated s) → RootIn table shape root
+  root_in e =
       let within = root_within s L.accepted in
-      let nodes = nodes_laid_lem s L.accepted L.laid in
+      let nodes = nodes_are in
       record {
         below = omega arith;
-        is_formula = ap₂ sort_at (table_read s L.accepted L.laid) e ∙ root_formula s L.accepted;
+        is_formula = ap₂ sort_at table_is e ∙ root_formula s L.accepted;
       }
+
+  pub values_fit : all.nodes ≡ shape.nodes
+  values_fit = ap (λ (h : Shape). h.nodes) (sym L.shape_is)
 
   tops_ranked : ts ≡ padded (map ranks (below N))
   unfolding tops_of tops
@@ -119,7 +132,9 @@ module _ {s table images apps : List ℕ} {x : Scope} (L : Laying s table images
 
     values_same : (p : ℕ) → values (assignment shape.variables (digits_at (sizes_in o) p)) [] (table_in table shape.nodes) ≡ values_at s p
     unfolding values_at
-    values_same p = rw (same ∙ sizes_are, functions_are, table_read s L.accepted L.laid)
+    values_same p =
+        ap₂ (λ (A : Interpretation) (t : List Node). values A [] t)
+        (ap₂ (λ (n : ℕ) (ss : List ℕ). assignment n (digits_at ss p)) functions_are (same ∙ sizes_are)) table_is
 
     good_same : (p : ℕ) → good p ≡ true_at s p
     unfolding true_at
@@ -131,54 +146,67 @@ module _ {s table images apps : List ℕ} {x : Scope} (L : Laying s table images
         let vs = values (assignment shape.variables (digits_at (sizes_in o) p)) [] (table_in table shape.nodes) in
         let e = values_same p in
         let many = length_grown (node_value (assignment shape.variables (digits_at (sizes_in o) p)) []) (table_in table shape.nodes) in
-        let laid = ap (λ (t : List Node). length t) (table_read s L.accepted L.laid) ∙ sym (nodes_laid_lem s L.accepted L.laid) in
+        let laid = ap (λ (t : List Node). length t) table_is ∙ sym nodes_are in
         ap (λ n. take n vals) (let q : length (values_at s p) ≡ shape.nodes = ap (λ (xs : List Value). length xs) (sym e) ∙ many ∙ laid in q)
         ∙ are
         ∙ ap (map byte_of) (take_all shape.nodes vs (omega arith) ∙ e)
 
-    -- what the search answers, by how the walk ends
-    module _ (budget limit tried : ℕ) (least : limit ≡ min budget places) (witness : List ℕ) where
-      found_false : Ends good limit tried true → outcome_of s budget ≡ falsified tried
-      unfolding outcome_of
-      found_false f =
-          let n = L.places_are in
-          let high = f.high in
-          falsified_when (true_at s) budget (product s) tried
-          (record {
-            low = f.low;
-            high = omega arith;
-            fails = sym (good_same tried) ∙ f.fails;
-            before = λ q a b. sym (good_same q) ∙ f.before q a b;
-          })
-          (omega arith)
+    -- as many places are looked at as the budget allows
+    abbrev limit : ℕ → ℕ
+    limit budget = min budget (product_of (sizes_in o))
 
-      pub answers_falsified : Ends good limit tried true → (written : ℕ) (witness' : List ℕ) → written ≡ length (witness_at s tried)
-          → witness' ≡ over (witness_at s tried) witness → SearchIs budget s witness (Decision.Falsified tried places written) witness'
-      answers_falsified f written witness' w x =
-          let e = found_false f in
-          record { answers = rw (e, L.places_are, w); witness_after_is = rw (e, x) }
+    limit_is : (budget : ℕ) → limit budget ≡ min budget places
+    limit_is budget = ap (min budget) (places_same o same)
 
-      all_true : Ends good limit tried false → AllTrue (true_at s) limit
-      all_true f p a b = sym (good_same p) ∙ f.1 p a b
+    -- what the search answers, by what the walk finds
+    module _ (budget : ℕ) (witness : List ℕ) where
+      module _ (place : ℕ) (f : FirstFalse good (limit budget) place) where
+        found_false : outcome_of s budget ≡ falsified place
+        unfolding outcome_of
+        found_false =
+            let n = L.places_are in
+            let high = f.high in
+            let most = limit_is budget in
+            falsified_when (true_at s) budget (product s) place
+            (record {
+              low = f.low;
+              high = omega arith;
+              fails = sym (good_same place) ∙ f.fails;
+              before = λ q a b. sym (good_same q) ∙ f.before q a b;
+            })
+            (omega arith)
 
-      found_valid : Ends good limit tried false → places ≤ budget → (outcome_of s budget ≡ valid tried)
-      unfolding outcome_of
-      found_valid f h =
-          let n = L.places_are in
-          let t = f.0 in
-          let q : limit ≡ product s = omega arith in
-          valid_when (true_at s) budget (product s) (omega arith) (subst (AllTrue (true_at s)) q (all_true f)) ∙ ap valid (let e : product s ≡ tried = omega arith in e)
+        pub answers_falsified : {written : ℕ} {witness' : List ℕ} → written ≡ length (witness_at s place)
+            → witness' ≡ over (witness_at s place) witness
+            → SearchIs budget s witness (record { verdict = Verdict.Falsified written; tried = place; product = places }) witness'
+        answers_falsified w x =
+            let e = found_false in
+            record { answers = rw (e, L.places_are, w); witness_after_is = rw (e, x) }
 
-      pub answers_valid : Ends good limit tried false → places ≤ budget → SearchIs budget s witness (Decision.Valid tried places) witness
-      answers_valid f h = let e = found_valid f h in record { answers = rw (e, L.places_are); witness_after_is = rw e }
+      module _ (f : AllTrue good (limit budget)) where
+        all_true : AllTrue (true_at s) (limit budget)
+        all_true p a b = sym (good_same p) ∙ f p a b
 
-      found_stopped : Ends good limit tried false → budget < places → (outcome_of s budget ≡ stopped tried)
-      unfolding outcome_of
-      found_stopped f h =
-          let n = L.places_are in
-          let t = f.0 in
-          let q : limit ≡ budget = omega arith in
-          stopped_when (true_at s) budget (product s) (omega arith) (subst (AllTrue (true_at s)) q (all_true f)) ∙ ap stopped (let e : budget ≡ tried = omega arith in e)
+        found_valid : places ≤ budget → (outcome_of s budget ≡ valid (product s))
+        unfolding outcome_of
+        found_valid h =
+            let n = L.places_are in
+            let most = limit_is budget in
+            let q : limit budget ≡ product s = omega arith in
+            valid_when (true_at s) budget (product s) (omega arith) (subst (AllTrue (true_at s)) q all_true)
 
-      pub answers_stopped : Ends good limit tried false → budget < places → SearchIs budget s witness (Decision.Stopped tried places) witness
-      answers_stopped f h = let e = found_stopped f h in record { answers = rw (e, L.places_are); witness_after_is = rw e }
+        pub answers_valid : places ≤ budget
+            → SearchIs budget s witness (record { verdict = Verdict.Valid; tried = places; product = places }) witness
+        answers_valid h = let e = found_valid h in record { answers = rw (e, L.places_are); witness_after_is = rw e }
+
+        found_stopped : budget < places → (outcome_of s budget ≡ stopped budget)
+        unfolding outcome_of
+        found_stopped h =
+            let n = L.places_are in
+            let most = limit_is budget in
+            let q : limit budget ≡ budget = omega arith in
+            stopped_when (true_at s) budget (product s) (omega arith) (subst (AllTrue (true_at s)) q all_true)
+
+        pub answers_stopped : budget < places
+            → SearchIs budget s witness (record { verdict = Verdict.Stopped; tried = budget; product = places }) witness
+        answers_stopped h = let e = found_stopped h in record { answers = rw (e, L.places_are); witness_after_is = rw e }

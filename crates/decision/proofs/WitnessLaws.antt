@@ -1,6 +1,6 @@
 -- The witness grows by one row at a time, and is whole after the last. Assumes nothing.
 use mathlib.Core.Path.{◌≡◌, sym, ap, ap₂, ◌∙◌}
-use Prim.Native.Nat.{ℕ, ◌+◌, ◌*◌, ◌≤◌, ◌<◌}
+use Prim.Native.Nat.{ℕ, ◌+◌, ◌-◌, ◌*◌, ◌≤◌, ◌<◌}
 use native.Mathlib.Omega.{arith}
 use native.Mathlib.Numerals.{add-one}
 use mathlib.Core.List.{List, [], ◌∷◌, ◌++◌, reverse, append-nil, append_assoc}
@@ -10,14 +10,17 @@ use Rattle.definitions.specs.Lists.{concat_map}
 use Rattle.definitions.specs.Problem.Check.{node_count, symbols_of}
 use Rattle.definitions.specs.Elimination.{State, eliminated}
 use Rattle.definitions.specs.Places.{values_at}
-use Rattle.definitions.specs.Witness.{Row, row_bytes, witness_bytes, app_row, rows_at, witness_at}
+use Rattle.definitions.specs.Witness.{Row, row_bytes, app_row, rows_at, witness_at}
 use Rattle.definitions.specs.Operations.Buffers.{over}
 use Rattle.theorems.proofs.Accepted.{Accepted}
 use Rattle.theorems.proofs.Witness.ReadBack.{witness_length}
-use Rattle.problem.proofs.Putting.{over_more, over_over}
-use Rattle.elimination.specs.State.{Laid, LaidAt}
+use borrow.Rule.Slice.PartMut.{put_mid, mid_of}
+use Rattle.problem.proofs.Putting.{put_more}
+use Rattle.elimination.proofs.Prefix.{apps_few}
+use Rattle.elimination.specs.State.{LaidAt}
+use Rattle.elimination.specs.declared.laid.Laid.{Laid}
 use Rattle.problem.proofs.Laying.{concat_map_append}
-use Rattle.decision.specs.Rows.{no_row, head_bytes, ValuesOf, RowWritten, WitnessWritten}
+use Rattle.decision.specs.Rows.{no_row, head_bytes, ValuesOf, RowOf, WitnessWritten}
 use Rattle.decision.proofs.RowLaws.{whole}
 
 -- there are as many rows as distinct applications
@@ -28,6 +31,9 @@ rows_many s ok l laid p =
     length-map (reverse apps) (app_row (symbols_of s) (eliminated s).images (values_at s p)) ∙ length-reverse apps
     ∙ ap (λ (st : State). length st.apps) (sym (whole s ok)) ∙ sym laid.count_is
 
+pub rows_few : {s : List ℕ} → Accepted s → {l : Laid} → LaidAt s (node_count s) l → l.count ≤ 40
+rows_few {s} ok laid = omega (arith, laid.count_is, apps_few s ok (node_count s) (omega arith))
+
 rows_length : (rows : List Row) → length (concat_map row_bytes rows) ≡ 5 * length rows
 rows_length rows =
     omega (arith, witness_length rows, length-append (head_bytes (length rows)) (concat_map row_bytes rows))
@@ -36,16 +42,22 @@ rows_length rows =
 pub record Writing (s vals before : List ℕ) (count : ℕ) (w : List ℕ) (i : ℕ) : Type 0 where
   pub many : (p : ℕ) → length (rows_at s p) ≡ count
   pub inside : i ≤ count
-  pub long : length w ≡ length before
+  pub few : count ≤ 40
   pub so_far : (p : ℕ) → ValuesOf s p vals
       → w ≡ over (head_bytes count ++ concat_map row_bytes (take i (rows_at s p))) before
 
-module _ (s vals before : List ℕ) (count : ℕ) where
-  pub writing_none : ((p : ℕ) → length (rows_at s p) ≡ count) → (w : List ℕ) → length w ≡ length before
+module _ {s vals before : List ℕ} {count : ℕ} where
+  pub writing_none : {w : List ℕ} → ((p : ℕ) → length (rows_at s p) ≡ count) → count ≤ 40
       → w ≡ over (head_bytes count) before → Writing s vals before count w 0
-  writing_none m w l e = record { many = m; inside = omega arith; long = l; so_far = λ p are. e ∙ ap (λ x. over x before) (sym (append-nil (head_bytes count))) }
+  writing_none m f e =
+      record {
+        many = m;
+        inside = omega arith;
+        few = f;
+        so_far = λ p are. e ∙ ap (λ x. over x before) (sym (append-nil (head_bytes count)));
+      }
 
-  module _ (w : List ℕ) (i : ℕ) (z : Writing s vals before count w i) where
+  module _ {w : List ℕ} {i : ℕ} (z : Writing s vals before count w i) where
     first_rows : (p : ℕ) → length (head_bytes count ++ concat_map row_bytes (take i (rows_at s p))) ≡ 6 + 5 * i
     first_rows p =
         let rows = take i (rows_at s p) in
@@ -63,20 +75,23 @@ module _ (s vals before : List ℕ) (count : ℕ) where
         ∙ concat_map_append row_bytes (take i rows) (get_or rows i no_row ∷ [])
         ∙ ap (λ (x : List ℕ). concat_map row_bytes (take i rows) ++ x) (append-nil (row_bytes (get_or rows i no_row))))
 
-    pub writing_more : (w' : List ℕ) → i < count → length w' ≡ length w → RowWritten s i vals w w' → Writing s vals before count w' (i + 1)
-    writing_more w' h l r =
+    -- row i is put at the start of what stands after those before it
+    pub writing_more : {row tail w' : List ℕ} → i < count → RowOf s i vals row
+        → tail ≡ over row (mid_of (6 + 5 * i) (length w - (6 + 5 * i)) w)
+        → w' ≡ put_mid (6 + 5 * i) (length w - (6 + 5 * i)) w tail → Writing s vals before count w' (i + 1)
+    writing_more {row} {tail} h r t e =
         record {
           many = z.many;
           inside = omega arith;
-          long = l ∙ z.long;
+          few = z.few;
           so_far =
               λ p are.
               let rows = concat_map row_bytes (take i (rows_at s p)) in
               let head = head_bytes count in
-              let row = row_bytes (get_or (rows_at s p) i no_row) in
-              r p are
-              ∙ over_more w (head ++ rows) before row (6 + 5 * i) (first_rows p) (z.so_far p are)
-              ∙ ap (λ x. over x before) (append_assoc head rows row ∙ ap (λ x. head ++ x) (one_row p h));
+              e
+              ∙ put_more w (head ++ rows) before row tail (6 + 5 * i) (first_rows p) (z.so_far p are) t
+              ∙ ap (λ x. over x before)
+              (append_assoc head rows row ∙ ap (λ x. head ++ (rows ++ x)) (r p are) ∙ ap (λ x. head ++ x) (one_row p h));
         }
 
     pub writing_done : count ≤ i → WitnessWritten s vals before (6 + 5 * count) w
@@ -90,19 +105,3 @@ module _ (s vals before : List ℕ) (count : ℕ) where
               ∙ ap₂ {C = List ℕ} (λ (k : ℕ) (rs : List Row). over (head_bytes k ++ concat_map row_bytes rs) before) (sym m) (take_all i rows (omega arith)),
           omega arith,
         )
-
--- the head goes first, and stands in what the rows are written over
-module _ (count : ℕ) (before w₀ : List ℕ) (e : w₀ ≡ over (head_bytes count) before) where
-  pub head_stands : w₀ ≡ over (head_bytes count) w₀
-  head_stands =
-      e ∙ sym (ap (over (head_bytes count)) e ∙ over_over (head_bytes count) (head_bytes count) before (omega arith))
-
-  pub witness_whole : (s vals w : List ℕ) (i : ℕ) → Writing s vals w₀ count w i → count ≤ i → WitnessWritten s vals before (6 + 5 * count) w
-  unfolding witness_at
-  witness_whole s vals w i z h p are =
-      let rows = rows_at s p in
-      let done = writing_done s vals w₀ count w i z h p are in
-      let l = witness_length rows in (
-        done.0 ∙ ap (over (witness_bytes rows)) e ∙ over_over (witness_bytes rows) (head_bytes count) before (omega arith),
-        done.1,
-      )

@@ -1,12 +1,9 @@
 -- The witness as the code writes it, row by row, against the definition's rows at a place. Assumes nothing.
-use Rattle.std.specs.Prelude.{◌≡◌, ℕ, ◌+◌, ◌*◌, List, [], ◌∷◌, ◌++◌, map, length, get_or, take, drop}
+use Rattle.std.specs.Prelude.{◌≡◌, ℕ, List, [], ◌∷◌, ◌++◌, map, length, get_or, take}
 use Rattle.definitions.specs.Bytes.{EQW, two}
-use Rattle.definitions.specs.Problem.Check.{node_count}
 use Rattle.definitions.specs.Places.{values_at}
 use Rattle.definitions.specs.Witness.{Row, byte_of, row_bytes, rows_at, witness_at}
 use Rattle.definitions.specs.Operations.Buffers.{over}
-use Rattle.elimination.specs.State.{laid_of, LaidAt}
-use Rattle.elimination.specs.declared.tally.Tally.{Tally}
 
 abbrev pub row_of5 : ℕ → ℕ → ℕ → ℕ → ℕ → Row
 row_of5 symbol x y z value = record { symbol = symbol; x = x; y = y; z = z; value = value }
@@ -22,16 +19,9 @@ head_bytes rows = EQW ++ two 1 ++ (rows ∷ [])
 abbrev pub ValuesOf : List ℕ → ℕ → List ℕ → Type 0
 ValuesOf s p vals = take (length (values_at s p)) vals ≡ map byte_of (values_at s p)
 
--- the images and the applications of a problem whose whole table is laid; the own variables are not looked at again
-pub record Noted (s images apps : List ℕ) (t : Tally) : Type 0 where
-  pub owns : List ℕ
-  pub laid : LaidAt s (node_count s) (laid_of images apps owns t)
-
--- row i of the place whose values these are stands where it belongs, and the rest is as it was
-abbrev pub RowWritten : List ℕ → ℕ → List ℕ → List ℕ → List ℕ → Type 0
-RowWritten s i vals before after =
-    (p : ℕ) → ValuesOf s p vals
-    → after ≡ take (6 + 5 * i) before ++ row_bytes (get_or (rows_at s p) i no_row) ++ drop (6 + 5 * i + 5) before
+-- the bytes of row i of the place whose values these are
+abbrev pub RowOf : List ℕ → ℕ → List ℕ → List ℕ → Type 0
+RowOf s i vals row = (p : ℕ) → ValuesOf s p vals → row ≡ row_bytes (get_or (rows_at s p) i no_row)
 
 -- the witness of the place whose values these are stands at the start, and the rest is as it was
 abbrev pub WitnessWritten : List ℕ → List ℕ → List ℕ → ℕ → List ℕ → Type 0

@@ -1,7 +1,7 @@
 -- The arguments of an application of an accepted problem: as many as its symbol's arity, which is at most three, and at least one
 -- where a different earlier node applies the same symbol. Assumes nothing.
 use mathlib.Core.Path.{◌≡◌, refl, sym, ap, ◌∙◌}
-use Prim.Native.Nat.{ℕ, zero, suc, ◌-◌, ◌≤◌, ◌<◌}
+use Prim.Native.Nat.{ℕ, ◌≤◌, ◌<◌}
 use native.Mathlib.Omega.{arith}
 use mathlib.Core.Bool.{true}
 use mathlib.Core.List.{List, [], ◌∷◌}
@@ -12,19 +12,18 @@ use lib.Seq.{get_or-take, length-take-le}
 use Rattle.definitions.specs.Problem.Node.{Node, node, no_node}
 use Rattle.definitions.specs.Problem.Ops.{op_of, is_app, term, arity, symbol_right, node_right, fits}
 use Rattle.definitions.specs.Problem.Ops.{sorts_of, count_of, fields_of, operands_of}
-use Rattle.definitions.specs.Problem.Check.{node_count, symbols_of, nodes_of, first_wrong}
-use Rattle.definitions.specs.Elimination.{App, begin, images_of, steps}
+use Rattle.definitions.specs.Problem.Check.{node_count, symbols_of, nodes_of}
+use Rattle.definitions.specs.Elimination.{images_of}
 use Rattle.theorems.proofs.Laws.Tests.{and_left, split}
 use Rattle.theorems.proofs.Laws.Ops.{app_sorts}
 use Rattle.theorems.proofs.Accepted.{Accepted}
 use Rattle.theorems.proofs.Tables.Fixed.{right_at_lem, right_fits}
 use Rattle.theorems.proofs.Elimination.Repeats.{not_found}
 use Rattle.theorems.proofs.Elimination.Variables.{no_operands}
-use Rattle.theorems.proofs.Elimination.WellLaid.{AllPlaced, apps_placed}
 use Rattle.problem.specs.Stages.{first_same}
 use Rattle.problem.proofs.NodeLaws.{few_sorts}
-use Rattle.elimination.specs.State.{state_at, no_app, app_at, three}
-use Rattle.elimination.proofs.Prefix.{nodes_length, prefix_right, state_done, state_short}
+use Rattle.elimination.specs.State.{state_at, three}
+use Rattle.elimination.proofs.Prefix.{nodes_length, state_done}
 use Rattle.elimination.proofs.Stepping.{none_earlier, images_done}
 
 -- a list of at most three is what is taken of it with zeros after it
@@ -37,12 +36,6 @@ take_three xs a e h = ap (λ m. take m (three xs)) (sym e) ∙ by xs (omega arit
     by (x ∷ y ∷ []) h = refl
     by (x ∷ y ∷ z ∷ []) h = refl
     by (x ∷ y ∷ z ∷ u ∷ us) h = absurd (omega arith)
-
-own_stands : (symbols : List ℕ) (T : List Node) (right : first_wrong symbols [] T ≡ none) (apps : List App) (i : ℕ)
-    → AllPlaced symbols T right apps → i < length apps → (get_or apps i no_app).own < length (steps symbols begin T).out
-own_stands symbols T right [] i a h = absurd (omega arith)
-own_stands symbols T right (app ∷ apps) zero a h = a.0.own_within
-own_stands symbols T right (app ∷ apps) (suc i) a h = own_stands symbols T right apps i a.1 (omega arith)
 
 -- an application that is right has as many operands as its symbol's arity, and at most three
 module _
@@ -128,12 +121,3 @@ module _ (s : List ℕ) (ok : Accepted s) where
               let found = not_found n (state_at s k).done (state_at s k).images (images_done s ok k h) (none_earlier s ok k h new) in
               absurd (found q (omega arith) (equal ∙ done))
         ]
-
-    -- the own variable node of an application stands in the table
-    pub own_small : (i : ℕ) → i < length (state_at s k).apps → (app_at s k i).own < 2632
-    own_small i l =
-        let T = take k (nodes_of s) in
-        let right = prefix_right s ok k (omega arith) in
-        let at = length (state_at s k).apps - suc i in
-        let w = own_stands (symbols_of s) T right (state_at s k).apps at (apps_placed (symbols_of s) T right) (omega arith) in
-        omega (arith, state_short s ok k (omega arith))

@@ -1,13 +1,13 @@
 -- One distinct application more: how many there are of each op, and that what the code has at hand stays right.
 -- Assumes nothing.
-use mathlib.Core.Path.{◌≡◌, refl, sym, ap, ◌∙◌, subst}
+use mathlib.Core.Path.{◌≡◌, refl, sym, ap, ◌∙◌}
 use Prim.Native.Nat.{ℕ, ◌+◌, ◌-◌, ◌≤◌, ◌<◌}
 use native.Mathlib.Omega.{arith}
 use mathlib.Core.Bool.{Bool, true, false}
 use mathlib.Core.List.{List, [], ◌∷◌}
 use mathlib.Core.Logic.{⊎_elim}
 use mathlib.Core.Option.{none}
-use lib.ListN.{length, take, set}
+use lib.ListN.{length, take}
 use lib.Dec.{eqb}
 use borrow.Author.Tests.{eq-eqb, ne_eqb}
 use Rattle.definitions.specs.Lists.{keep, keep_if}
@@ -19,9 +19,8 @@ use Rattle.theorems.proofs.Accepted.{Accepted}
 use Rattle.theorems.proofs.Laws.Ops.{app_op}
 use Rattle.theorems.proofs.Elimination.Steps.{of_op}
 use Rattle.problem.specs.Stages.{first_same}
-use Rattle.elimination.specs.State.{state_at, new_app, Laid, laid_of, LaidAt, image_set, app_added}
-use Rattle.elimination.specs.Tallied.{next_of, tallied}
-use Rattle.elimination.specs.declared.tally.Tally.{Tally}
+use Rattle.elimination.specs.State.{state_at, new_app, LaidAt, image_set, app_added, next_of}
+use Rattle.elimination.specs.declared.laid.Laid.{Laid}
 use Rattle.elimination.proofs.Prefix.{apps_few}
 use Rattle.elimination.proofs.StateLaws.{laid_app}
 use Rattle.elimination.proofs.Stepping.{next_app}
@@ -83,32 +82,22 @@ module _ (s : List ℕ) (ok : Accepted s) (k : ℕ) (h : k < node_count s) where
           functions predicates next f g
 
       -- one of a function, or one of a predicate
-      function_added : n.op ≡ 0 → (at : ℕ) → at ≡ length (state_at s (k + 1)).out
+      pub function_added : n.op ≡ 0 → (at : ℕ) → at ≡ length (state_at s (k + 1)).out
           → LaidAt s (k + 1) (image_set (app_added l k l.nodes (l.functions + 1) l.predicates) k (at - 1) at)
       function_added o at e =
           added at (l.functions + 1) l.predicates e
           (ap (λ m. m + 1) before.functions_are ∙ one_more_lem this older 0 o)
           (before.predicates_are ∙ no_more this older 6 (λ q. omega arith))
 
-      predicate_added : n.op ≡ 6 → (at : ℕ) → at ≡ length (state_at s (k + 1)).out
+      pub predicate_added : n.op ≡ 6 → (at : ℕ) → at ≡ length (state_at s (k + 1)).out
           → LaidAt s (k + 1) (image_set (app_added l k l.nodes l.functions (l.predicates + 1)) k (at - 1) at)
       predicate_added o at e =
           added at l.functions (l.predicates + 1) e
           (before.functions_are ∙ no_more this older 0 (λ q. omega arith))
           (ap (λ m. m + 1) before.predicates_are ∙ one_more_lem this older 6 o)
 
-    -- its variable has the next number of its op, and it is noted with its own variable node and its image
-    module _ (images apps owns : List ℕ) (t : Tally) (before : LaidAt s k (laid_of images apps owns t)) where
-      pub next_number : next_of t n.op ≡ next_var (state_at s k) n
-      next_number =
-          ⊎_elim (λ e. ap (next_of t) e ∙ before.functions_are ∙ ap (λ op. length (of_op op older)) (sym e))
-          (λ e. ap (next_of t) e ∙ before.predicates_are ∙ ap (λ op. length (of_op op older)) (sym e)) (app_op n.op p)
-
-      pub application_added : (at : ℕ) → at ≡ length (state_at s (k + 1)).out
-          → LaidAt s (k + 1) (laid_of (set images k (at - 1)) (set apps t.count k) (set owns t.count t.nodes) (tallied t n.op at))
-      application_added at e =
-          let noted : ℕ → Type 0 =
-          λ op. LaidAt s (k + 1) (laid_of (set images k (at - 1)) (set apps t.count k) (set owns t.count t.nodes) (tallied t op at))
-          in
-          ⊎_elim (λ o. subst noted (sym o) (function_added before o at e)) (λ o. subst noted (sym o) (predicate_added before o at e))
-          (app_op n.op p)
+    -- its variable has the next number of its op
+    pub next_number : {l : Laid} → LaidAt s k l → next_of l n.op ≡ next_var (state_at s k) n
+    next_number {l} before =
+        ⊎_elim (λ e. ap (next_of l) e ∙ before.functions_are ∙ ap (λ op. length (of_op op older)) (sym e))
+        (λ e. ap (next_of l) e ∙ before.predicates_are ∙ ap (λ op. length (of_op op older)) (sym e)) (app_op n.op p)

@@ -1,11 +1,13 @@
 pub mod Pairwise
 pub mod Prefix
-pub mod Tallying
 pub mod StateLaws
 pub mod Repeating
 pub mod Operands
 pub mod Stepping
+pub mod Copying
 pub mod Arguments
 pub mod Choosing
 pub mod Counting
+pub mod Applying
+pub mod Taking
 pub mod Promising

@@ -1,116 +1,63 @@
--- The images of a node's operands, field by field: that of the operand where the field is in use, and 0 where it is not.
--- Assumes nothing.
-use mathlib.Core.Path.{◌≡◌, refl, sym, ap, ◌∙◌, subst}
-use Prim.Native.Nat.{ℕ, zero, suc, ◌≤◌, ◌<◌}
-use native.Mathlib.Omega.{arith}
-use native.Mathlib.Nat.{min-le_left, le-min}
-use mathlib.Core.Bool.{true}
-use mathlib.Core.List.{List, [], ◌∷◌, map}
-use mathlib.Core.Option.{Option, none, some}
-use lib.ListN.{length, get_or, get_elem?, take, length-map, length-take, get_or-eq_default}
-use lib.Seq.{get_or-take, length-take-le}
+-- The images of a node's operands: of those in use, which are earlier nodes, and 0 after them. Assumes nothing.
+use Rattle.std.proofs.Common.{◌≡◌, ℕ, zero, suc, ◌≤◌, ◌<◌, List, [], ◌∷◌, map, get_or, take, cond, ltb, refl, sym, ap, ap₂, ◌∙◌, subst, arith, get_or-take}
+use Rattle.std.proofs.Math.Seq.{length-take-le}
 use Rattle.definitions.specs.Problem.Node.{Node, node}
-use Rattle.definitions.specs.Problem.Ops.{Sort, arity, node_right, sorts_of, count_of, fields_of, operands_of}
+use Rattle.definitions.specs.Problem.Ops.{sorts_of, count_of}
 use Rattle.definitions.specs.Problem.Check.{node_count, symbols_of, nodes_of}
-use Rattle.definitions.specs.Elimination.{images_of}
-use Rattle.theorems.proofs.Laws.Tests.{none≢some}
 use Rattle.theorems.proofs.Accepted.{Accepted}
+use Rattle.theorems.proofs.Laws.Ops.{AllBelow}
 use Rattle.theorems.proofs.Tables.Fixed.{right_at_lem, right_below}
-use Rattle.asked.proofs.Operands.{below_at}
-use Rattle.problem.specs.Wanted.{sort_wanted, wanted_of}
-use Rattle.elimination.specs.State.{state_at}
+use Rattle.asked.specs.Reached.{operands_at}
+use Rattle.asked.proofs.Renumbering.{node_renamed}
+use Rattle.elimination.specs.State.{state_at, ImagesRead}
+use Rattle.elimination.specs.declared.laid.Laid.{Laid}
 use Rattle.elimination.proofs.Prefix.{nodes_length, image_small}
 
--- nothing is wanted past the operands, and something at each of them
-none_past : (ss : List Sort) (j : ℕ) → get_elem? ss j ≡ none → length ss ≤ j
-none_past [] j e = omega arith
-none_past (s ∷ ss) zero e = absurd (none≢some (sym e))
-none_past (s ∷ ss) (suc j) e = omega (arith, none_past ss j e)
+-- the images of numbers below q are among the first k
+images_first : (images : List ℕ) (q k : ℕ) (xs : List ℕ) → q ≤ k → AllBelow q xs
+    → map (λ x. get_or images x 0) xs ≡ map (λ x. get_or (take k images) x 0) xs
+images_first images q k [] h b = refl
+images_first images q k (x ∷ xs) h b =
+    ap₂ {C = List ℕ} (λ y ys. y ∷ ys) (sym (get_or-take k images x 0 (omega (arith, b.0)))) (images_first images q k xs h b.1)
 
-some_among : (ss : List Sort) (j : ℕ) (x : Sort) → get_elem? ss j ≡ some x → j < length ss
-some_among [] j x e = absurd (none≢some e)
-some_among (s ∷ ss) zero x e = omega arith
-some_among (s ∷ ss) (suc j) x e = omega (arith, some_among ss j x e)
+-- and small where these are
+images_small : (images : List ℕ) (q : ℕ) (xs : List ℕ) (j : ℕ) → AllBelow q xs → ((i : ℕ) → i < q → get_or images i 0 < 2632)
+    → get_or (map (λ x. get_or images x 0) xs) j 0 < 2632
+images_small images q [] j b h = omega arith
+images_small images q (x ∷ xs) zero b h = h x b.0
+images_small images q (x ∷ xs) (suc j) b h = images_small images q xs j b.1 h
 
-unused_past : (o : Option (List Sort)) (j : ℕ) → sort_wanted o j ≡ none → count_of o ≤ j
-unused_past none j e = omega arith
-unused_past (some ss) j e = none_past ss j e
+-- node q as the code reads it, and how many of its fields are in use
+module _ {s : List ℕ} (ok : Accepted s) {q : ℕ} (inside : q < node_count s) {m : Node} (e : m ≡ node (nodes_of s) q) {u : ℕ}
+    (is : u ≡ count_of (sorts_of (symbols_of s) m)) where
+  abbrev ops : List ℕ
+  ops = operands_at s q
 
-used_among : (o : Option (List Sort)) (j : ℕ) (x : Sort) → sort_wanted o j ≡ some x → j < count_of o
-used_among none j x e = absurd (none≢some e)
-used_among (some ss) j x e = some_among ss j x e
+  -- the operands in use are earlier nodes
+  below : AllBelow q ops
+  below =
+      let l = nodes_length s ok in
+      subst (λ k. AllBelow k ops) (length-take-le q (nodes_of s) (omega arith))
+      (right_below (symbols_of s) (take q (nodes_of s)) (node (nodes_of s) q)
+      (right_at_lem (symbols_of s) (nodes_of s) q ok.layout.nodes_right (omega arith)))
 
-pub map_at : {A B : Type 0} (f : A → B) (xs : List A) (j : ℕ) (d : A) (e : B) → j < length xs → get_or (map f xs) j e ≡ f (get_or xs j d)
-map_at f [] j d e h = absurd (omega arith)
-map_at f (x ∷ xs) zero d e h = refl
-map_at f (x ∷ xs) (suc j) d e h = map_at f xs j d e (omega arith)
-
-module _ (symbols : List ℕ) (n : Node) (j : ℕ) where
-  -- what field j is wanted for
-  abbrev pub wanted : Option Sort
-  wanted = wanted_of n.op (arity symbols n.sym) j
-
-  pub image_unused : (images : List ℕ) → wanted ≡ none → get_or (images_of symbols images n) j 0 ≡ 0
-  image_unused images e =
-      let c = count_of (sorts_of symbols n) in
-      let past = unused_past (sorts_of symbols n) j e in
-      let few = min-le_left c 3 in
-      get_or-eq_default (images_of symbols images n) 0
-      (omega (arith, length-map (operands_of symbols n) (λ k. get_or images k 0), length-take c (fields_of n)))
-
-  module _ (x : Sort) (used : wanted ≡ some x) (h : j < 3) where
-    among : j < length (operands_of symbols n)
-    among =
-        let c = count_of (sorts_of symbols n) in
-        let before = used_among (sorts_of symbols n) j x used in
-        let least = le-min {k = suc j} {a = c} {b = 3} (omega arith) (omega arith) in
-        omega (arith, length-take c (fields_of n))
-
-    is_field : get_or (operands_of symbols n) j 0 ≡ get_or (fields_of n) j 0
-    is_field = get_or-take (count_of (sorts_of symbols n)) (fields_of n) j 0 (used_among (sorts_of symbols n) j x used)
-
-    pub image_used : (images : List ℕ) → get_or (images_of symbols images n) j 0 ≡ get_or images (get_or (fields_of n) j 0) 0
-    image_used images = map_at (λ k. get_or images k 0) (operands_of symbols n) j 0 0 among ∙ ap (λ k. get_or images k 0) is_field
-
-    pub field_below : (earlier : List Node) → node_right symbols earlier n ≡ true → get_or (fields_of n) j 0 < length earlier
-    field_below earlier right =
-        subst (λ k. k < length earlier) is_field
-        (below_at (length earlier) (operands_of symbols n) j (right_below symbols earlier n right) among)
-
--- operand field j of node q of an accepted problem is in use, and k nodes are taken
-pub record InUse (s : List ℕ) (k q j : ℕ) : Type 0 where
-  pub ok : Accepted s
-  pub before : q ≤ k
-  pub inside : q < node_count s
-  pub within : k ≤ node_count s
-  pub field : j < 3
-  pub sort : Sort
-  pub used : wanted (symbols_of s) (node (nodes_of s) q) j ≡ some sort
-
-module _ (s : List ℕ) (k q j : ℕ) (u : InUse s k q j) where
-  abbrev operand : ℕ
-  operand = get_or (fields_of (node (nodes_of s) q)) j 0
-
-  -- its operand is an earlier node
-  pub operand_before : operand < q
-  operand_before =
-      let l = nodes_length s u.ok in
-      let right = right_at_lem (symbols_of s) (nodes_of s) q u.ok.layout.nodes_right (omega arith) in
-      let below = field_below (symbols_of s) (node (nodes_of s) q) j u.sort u.used u.field (take q (nodes_of s)) right in
-      omega (arith, length-take-le q (nodes_of s) (omega arith))
-
-  -- whose image is among those at hand
-  module _ (images : List ℕ) (are : take k images ≡ (state_at s k).images) where
-    at_hand : get_or images operand 0 ≡ get_or (state_at s k).images operand 0
-    at_hand =
-        let b = operand_before in
-        sym (get_or-take k images operand 0 (omega arith)) ∙ ap (λ (is : List ℕ). get_or is operand 0) are
-
-    pub image_read : get_or images operand 0 ≡ get_or (images_of (symbols_of s) (state_at s k).images (node (nodes_of s) q)) j 0
-    image_read =
-        at_hand ∙ sym (image_used (symbols_of s) (node (nodes_of s) q) j u.sort u.used u.field (state_at s k).images)
-
-    pub image_read_small : get_or images operand 0 < 2632
-    image_read_small =
-        let b = operand_before in
-        subst (λ m. m < 2632) (sym at_hand) (image_small s u.ok k (omega arith) operand (omega arith))
+  pub images_are_read : (l : Laid) {x y z : ℕ} → x ≡ cond (ltb 0 u) (get_or l.images m.a 0) 0
+      → y ≡ cond (ltb 1 u) (get_or l.images m.b 0) 0 → z ≡ cond (ltb 2 u) (get_or l.images m.c 0) 0
+      → ImagesRead s l q (x ∷ y ∷ z ∷ [])
+  images_are_read l {x} {y} {z} ex ey ez k h w are =
+      let images = (state_at s k).images in
+      let taken : map (λ o. get_or l.images o 0) ops ≡ map (λ o. get_or images o 0) ops =
+      images_first l.images q k ops h below ∙ ap (λ (is : List ℕ). map (λ o. get_or is o 0) ops) are
+      in
+      let field = λ (j i : ℕ) (r : i ≡ get_or (map (λ o. get_or l.images o 0) ops) j 0).
+      r ∙ ap (λ is. get_or is j 0) taken
+      in
+      let small = λ (j i : ℕ) (r : i ≡ get_or (map (λ o. get_or images o 0) ops) j 0).
+      subst (λ i. i < 2632) (sym r) (images_small images q ops j below (λ i b. image_small s ok k w i (omega arith)))
+      in
+      -- as the operands of a node are renumbered, so they are by their images
+      let renamed = node_renamed ok.layout q inside m e u is l.images x y z ex ey ez in
+      let fx = field 0 x (ap (λ (n : Node). n.a) renamed) in
+      let fy = field 1 y (ap (λ (n : Node). n.b) renamed) in
+      let fz = field 2 z (ap (λ (n : Node). n.c) renamed) in
+      (rw (fx, fy, fz), small 0 x fx, small 1 y fy, small 2 z fz)

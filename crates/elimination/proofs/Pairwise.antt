@@ -1,22 +1,64 @@
--- The condition for one, two and three arguments. Assumes nothing.
-use mathlib.Core.Path.{◌≡◌, refl, sym, ap₂}
-use Prim.Native.Nat.{ℕ}
-use native.Mathlib.Omega.{arith}
-use mathlib.Core.List.{List, [], ◌∷◌}
-use lib.ListN.{length, take}
-use Rattle.definitions.specs.Problem.Node.{Node}
-use Rattle.definitions.specs.Elimination.{condition}
-use Rattle.elimination.specs.State.{three}
+-- The condition that arguments are equal in pairs, one argument after the other. Assumes nothing.
+use Rattle.std.proofs.Common.{◌≡◌, ℕ, zero, suc, ◌+◌, ◌*◌, ◌≤◌, ◌<◌, List, [], ◌∷◌, length, get_or, take, refl, sym, ap, ap₂, ◌∙◌, arith, add-one}
+use Rattle.std.proofs.Math.Seq.{take_all}
+use Rattle.definitions.specs.Lists.{snoc}
+use Rattle.definitions.specs.Problem.Node.{Node, plain}
+use Rattle.definitions.specs.Elimination.{further, condition}
+use Rattle.problem.specs.Lays.{Lays}
+use Rattle.problem.proofs.Laying.{lays_on, lays_as}
+use Rattle.elimination.specs.Choice.{one_more}
 
-three_of : (xs : List ℕ) → length xs ≡ 3 → xs ≡ three xs
-three_of [] e = absurd (omega arith)
-three_of (x ∷ []) e = absurd (omega arith)
-three_of (x ∷ y ∷ []) e = absurd (omega arith)
-three_of (x ∷ y ∷ z ∷ []) e = refl
-three_of (x ∷ y ∷ z ∷ u ∷ us) e = absurd (omega arith)
+further_next : (out : List Node) (xs ys : List ℕ) (j : ℕ) → j < length xs → length ys ≡ length xs
+    → further out (take (suc j) xs) (take (suc j) ys) ≡ one_more (get_or xs j 0) (get_or ys j 0) (further out (take j xs) (take j ys))
+further_next out [] ys j h e = absurd (omega arith)
+further_next out (x ∷ xs) [] j h e = absurd (omega arith)
+further_next out (x ∷ xs) (y ∷ ys) zero h e = refl
+further_next out (x ∷ xs) (y ∷ ys) (suc j) h e = further_next (one_more x y out) xs ys j (omega arith) (omega arith)
 
--- the condition for the first n of three arguments, the three written out
-pub condition_of : (xs ys : List ℕ) → length xs ≡ 3 → length ys ≡ 3 → (n : ℕ) (t : List Node)
-    → condition t (take n (three xs)) (take n (three ys)) ≡ condition t (take n xs) (take n ys)
-condition_of xs ys p q n t =
-    ap₂ (λ (us vs : List ℕ). condition t (take n us) (take n vs)) (sym (three_of xs p)) (sym (three_of ys q))
+condition_first : (t : List Node) (xs ys : List ℕ) → 0 < length xs → length ys ≡ length xs
+    → condition t (take 1 xs) (take 1 ys) ≡ snoc t (plain 2 (get_or xs 0 0) (get_or ys 0 0) 0)
+condition_first t [] ys h e = absurd (omega arith)
+condition_first t (x ∷ xs) [] h e = absurd (omega arith)
+condition_first t (x ∷ xs) (y ∷ ys) h e = refl
+
+condition_next : (t : List Node) (xs ys : List ℕ) (j : ℕ) → 1 ≤ j → j < length xs → length ys ≡ length xs
+    → condition t (take (suc j) xs) (take (suc j) ys) ≡ one_more (get_or xs j 0) (get_or ys j 0) (condition t (take j xs) (take j ys))
+condition_next t xs ys zero h l e = absurd (omega arith)
+condition_next t [] ys (suc j) h l e = absurd (omega arith)
+condition_next t (x ∷ xs) [] (suc j) h l e = absurd (omega arith)
+condition_next t (x ∷ xs) (y ∷ ys) (suc j) h l e =
+    further_next (snoc t (plain 2 x y 0)) xs ys j (omega arith) (omega arith)
+
+-- from the buffer `before` of count nodes to the buffer `after` of `at` nodes, the condition for the first j arguments is laid
+pub record Conditioned (xs ys before : List ℕ) (count : ℕ) (after : List ℕ) (at j : ℕ) : Type 0 where
+  pub lays : Lays before after count at (λ t. condition t (take j xs) (take j ys))
+  pub reached : at + 1 ≡ count + 2 * j
+  pub long : length after ≡ length before
+
+module _ {xs ys before : List ℕ} {count : ℕ} (h : 0 < length xs) (e : length ys ≡ length xs) where
+  pub conditioned_first : {after : List ℕ} (n : Node) → n ≡ plain 2 (get_or xs 0 0) (get_or ys 0 0) 0 → length after ≡ length before
+      → Lays before after count (count + 1) (λ t. snoc t n) → Conditioned xs ys before count after (count + 1) 1
+  conditioned_first n is l p =
+      record {
+        lays = lays_as (λ t k. ap (snoc t) is ∙ sym (condition_first t xs ys h e)) refl p;
+        reached = omega arith;
+        long = l;
+      }
+
+  module _ {work : List ℕ} {at j : ℕ} (c : Conditioned xs ys before count work at j) where
+    pub conditioned_next : {after : List ℕ} → 1 ≤ j → j < length xs → length after ≡ length work
+        → Lays work after at (at + 2) (one_more (get_or xs j 0) (get_or ys j 0)) → Conditioned xs ys before count after (at + 2) (j + 1)
+    conditioned_next i l k p =
+        record {
+          lays =
+              lays_as
+              (λ t q.
+              sym (condition_next t xs ys j i l e) ∙ ap (λ m. condition t (take m xs) (take m ys)) (sym (add-one j)))
+              refl (lays_on c.lays refl p);
+          reached = (let r = c.reached in omega arith);
+          long = k ∙ c.long;
+        }
+
+    pub conditioned_last : length xs ≤ j → Lays before work count at (λ t. condition t xs ys)
+    conditioned_last l =
+        lays_as (λ t q. ap₂ (condition t) (take_all j xs l) (take_all j ys (omega arith))) refl c.lays

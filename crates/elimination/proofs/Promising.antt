@@ -9,23 +9,25 @@ use mathlib.Core.Option.{Option, none, some}
 use lib.ListN.{length, get_or}
 use lib.Seq.{get_or-take, take_all}
 use borrow.Author.Tests.{lt-ltb, le-ltb}
+use Rattle.std.specs.Prelude.{Ok, Err}
 use Rattle.definitions.specs.Problem.Node.{table_bytes}
 use Rattle.definitions.specs.Problem.Check.{node_count, symbols_of, nodes_of, functions_in, predicates_in}
 use Rattle.definitions.specs.Problem.Check.{Refused, refuse}
-use Rattle.definitions.specs.Problem.Asked.{asked, limit_refusal, refusal_of}
+use Rattle.definitions.specs.Problem.Asked.{asked, ask_refusal, limit_refusal, refusal_of}
 use Rattle.definitions.specs.Elimination.{State, begin, steps, eliminated, table_of, root_of}
 use Rattle.definitions.specs.Operations.Answers.{refused, given, unless, Counts, counts, laid, eliminate_refusal, eliminate_answer}
 use Rattle.definitions.specs.Operations.Buffers.{over, unless_refused, work_after}
-use Rattle.definitions.specs.Operations.Readings.{refusal_read, checked_read}
+use Rattle.definitions.specs.Operations.Readings.{refusal_read}
 use Rattle.definitions.specs.Operations.Promises.{EliminatePromise}
 use Rattle.definitions.specs.declared.Refusal.{Refusal}
-use Rattle.definitions.specs.declared.Checked.{Checked}
-use Rattle.definitions.specs.declared.Eliminated.{Eliminated}
+use Rattle.definitions.specs.declared.Counts as declared
 use Rattle.theorems.specs.Asking.{Asks}
 use Rattle.theorems.proofs.Accepted.{Formed, Accepted, accept_limits}
 use Rattle.theorems.proofs.Asked.Asks.{asks_refusal}
 use Rattle.asked.specs.Asking.{Counted}
-use Rattle.elimination.specs.State.{state_at, Laid, AllLaid}
+use Rattle.asked.proofs.Asking.{root_refused}
+use Rattle.elimination.specs.State.{state_at, AllLaid}
+use Rattle.elimination.specs.declared.laid.Laid.{Laid}
 use Rattle.elimination.proofs.Prefix.{nodes_length, state_images}
 
 -- an answer that is a refusal, or values, tells whether there was a refusal
@@ -42,31 +44,33 @@ module _ {A : Type 0} (v : A) where
   values_told (some x) u e = absurd (let z : ◌≡◌ {A = ℕ} 0 1 = cc in omega arith)
   values_told none u e = cc
 
--- what 9 and 10 have answered on the problem asked
-module _ {a : List ℕ} {answer : Checked} (p : Counted a answer) where
-  pub refused_by : {r : Refusal} → answer ≡ Checked.Refused r → limit_refusal a ≡ some (refusal_read r)
-  refused_by {r} e = refusal_told _ (limit_refusal a) (refusal_read r) (ap checked_read (sym e) ∙ p.answers)
+-- what 9 and 10 have answered on the problem asked: a refusal, or its counts
+pub refused_by : {a : List ℕ} {r : Refusal} → Counted a (Err r) → limit_refusal a ≡ some (refusal_read r)
+refused_by {a} {r} p = refusal_told _ (limit_refusal a) (refusal_read r) p.answers
 
-  module _ {f g : ℕ} (e : answer ≡ Checked.Accepted f g) where
-    pub not_refused : limit_refusal a ≡ none
-    not_refused = none_told _ (limit_refusal a) _ (ap checked_read (sym e) ∙ p.answers)
+module _ {a : List ℕ} {n : declared.Counts} (p : Counted a (Ok n)) where
+  pub not_refused : limit_refusal a ≡ none
+  not_refused = none_told _ (limit_refusal a) _ p.answers
 
-    pub is_accepted : Formed a → Accepted a
-    is_accepted formed = accept_limits a formed not_refused
+  pub is_accepted : Formed a → Accepted a
+  is_accepted formed = accept_limits a formed not_refused
 
-    told : record { functions = f; predicates = g } ≡ counts a
-    told = values_told _ (limit_refusal a) _ (ap checked_read (sym e) ∙ p.answers)
+  told : record { functions = n.functions; predicates = n.predicates } ≡ counts a
+  told = values_told _ (limit_refusal a) _ p.answers
 
-    pub functions_answered : f ≡ functions_in (nodes_of a)
-    functions_answered = ap (λ (c : Counts). c.functions) told
+  pub functions_answered : n.functions ≡ functions_in (nodes_of a)
+  functions_answered = ap (λ (c : Counts). c.functions) told
 
-    pub predicates_answered : g ≡ predicates_in (nodes_of a)
-    predicates_answered = ap (λ (c : Counts). c.predicates) told
+  pub predicates_answered : n.predicates ≡ predicates_in (nodes_of a)
+  predicates_answered = ap (λ (c : Counts). c.predicates) told
 
 -- refusals 1 to 7, 16, 9, 10 and 11
 pub refused_first : (s : List ℕ) (root work : ℕ) (r : Refused) → refusal_of s root ≡ some r → eliminate_refusal s root work ≡ some r
 unfolding eliminate_refusal
 refused_first s root work r e = rw e
+
+pub refused_root : (s : List ℕ) (root work : ℕ) (r : Refused) → ask_refusal s root ≡ some r → eliminate_refusal s root work ≡ some r
+refused_root s root work r e = refused_first s root work r (root_refused s root r e)
 
 module _ {s : List ℕ} {root : ℕ} {a : List ℕ} (A : Asks s root a) (work : ℕ) where
   pub refused_limit : (r : Refused) → limit_refusal a ≡ some r → eliminate_refusal s root work ≡ some r
@@ -91,7 +95,7 @@ module _ (s : List ℕ) (root : ℕ) (work : List ℕ) where
   refusal_answered r e = rw e
 
   pub refusal_promised : {r : Refusal} → eliminate_refusal s root (length work) ≡ some (refusal_read r)
-      → EliminatePromise root s work (Eliminated.Refused r) work
+      → EliminatePromise root s work (Err r) work
   refusal_promised e = record { answers = refusal_answered _ e; work_after_is = work_kept _ e }
 
 module _ {s : List ℕ} {root : ℕ} {a : List ℕ} (A : Asks s root a) (work : List ℕ) (e : eliminate_refusal s root (length work) ≡ none) where
@@ -108,7 +112,7 @@ module _ {s : List ℕ} {root : ℕ} {a : List ℕ} (A : Asks s root a) (work : 
       ∙ sym (ap (λ (o : Option Refused). unless o (laid (asked s root))) e)
 
   pub table_promised : {nodes image : ℕ} {work' : List ℕ} → nodes ≡ length (table_of a) → image ≡ root_of (eliminated a)
-      → work' ≡ over (table_bytes (table_of a)) work → EliminatePromise root s work (Eliminated.Table nodes image) work'
+      → work' ≡ over (table_bytes (table_of a)) work → EliminatePromise root s work (Ok (record { nodes = nodes; root = image })) work'
   table_promised n r w =
       record {
         answers = ap₂ (λ (x y : ℕ). given (record { nodes = x; root = y })) n r ∙ table_answered;

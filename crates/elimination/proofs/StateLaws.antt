@@ -4,31 +4,24 @@ use Prim.Native.Nat.{ℕ, suc, ◌+◌, ◌-◌, ◌<◌}
 use native.Mathlib.Omega.{arith}
 use native.Mathlib.Numerals.{add-one}
 use mathlib.Core.List.{List, [], ◌∷◌, ◌++◌}
-use lib.ListN.{length, get_or, take, set, length-set, length-append}
+use borrow.Author.Count.{below_more}
+use lib.ListN.{length, get_or, take, set, length-set, length-append, length-replicate}
 use lib.Seq.{take-suc-set, get_or-set_same, get_or-set_other}
 use Rattle.definitions.specs.Lists.{snoc}
 use Rattle.definitions.specs.Problem.Node.{Node, node}
 use Rattle.definitions.specs.Problem.Check.{symbols_of, nodes_of}
 use Rattle.definitions.specs.Elimination.{App, State, last, node_on, images_of, applied, add_app, repeat, copy}
-use Rattle.theorems.proofs.Laws.Entries.{set_more}
 use Rattle.theorems.proofs.Elimination.Steps.{of_op}
-use Rattle.elimination.specs.State.{state_at, no_app, app_at, new_app, Laid, laid_of, LaidAt, image_set, app_added}
-use Rattle.elimination.specs.Tallied.{no_tally}
-use Rattle.elimination.specs.declared.tally.Tally.{Tally}
+use Rattle.elimination.specs.State.{state_at, no_app, app_at, new_app, no_application, noted, nothing_laid, LaidAt, image_set, app_added}
+use Rattle.elimination.specs.declared.laid.Application.{Application}
+use Rattle.elimination.specs.declared.laid.Laid.{Laid}
 
--- the numbers that the code hands on are those that it was shown of
-pub laid_same : {s : List ℕ} {k : ℕ} {images apps owns : List ℕ} {t t' : Tally} → t ≡ t' → LaidAt s k (laid_of images apps owns t')
-    → LaidAt s k (laid_of images apps owns t)
-laid_same {s} {k} {images} {apps} {owns} e = subst (λ (t : Tally). LaidAt s k (laid_of images apps owns t)) (sym e)
-
--- at the start, whatever stands in the lists
-pub laid_none : (s images apps owns : List ℕ) → length images ≡ 256 → length apps ≡ 40 → length owns ≡ 40
-    → LaidAt s 0 (laid_of images apps owns no_tally)
-laid_none s images apps owns i a o =
+-- nothing is at hand where no node is taken
+pub laid_none : (s : List ℕ) → LaidAt s 0 nothing_laid
+laid_none s =
     record {
-      images_long = i;
-      apps_long = a;
-      owns_long = o;
+      images_long = length-replicate {A = ℕ} 256 0;
+      applications_long = length-replicate {A = Application} 40 no_application;
       images_are = refl;
       count_is = refl;
       functions_are = refl;
@@ -40,6 +33,15 @@ laid_none s images apps owns i a o =
       app_image = λ i h. absurd (omega arith);
     }
 
+-- what holds of each application before k, and of the one that is noted at k, holds of each up to k
+noted_more : (P : ℕ → Application → Type 0) (xs : List Application) (k : ℕ) (x : Application) → k < length xs
+    → ((j : ℕ) → j < k → P j (get_or xs j no_application)) → P k x
+    → (j : ℕ) → j < k + 1 → P j (get_or (set xs k x) j no_application)
+noted_more P xs k x h before here =
+    below_more (λ j. P j (get_or (set xs k x) j no_application)) k
+    (λ j l. subst (P j) (sym (get_or-set_other xs k j x no_application (λ e. omega arith))) (before j l))
+    (subst (P k) (sym (get_or-set_same xs k x no_application h)) here)
+
 -- one image more
 image_more : (images is : List ℕ) (k image : ℕ) → length images ≡ 256 → k < 256 → take k images ≡ is
     → take (k + 1) (set images k image) ≡ snoc is image
@@ -48,10 +50,10 @@ image_more images is k image l h e =
 
 module _ (s : List ℕ) (k : ℕ) (l : Laid) (before : LaidAt s k l) (small : k < 256) where
   -- the image of an earlier application stays
-  image_kept : (image j : ℕ) → j < l.count → get_or (set l.images k image) (get_or l.apps j 0) 0 ≡ (app_at s k j).image
+  image_kept : (image j : ℕ) → j < l.count → get_or (set l.images k image) (noted l j).node 0 ≡ (app_at s k j).image
   image_kept image j h =
       let b = before.app_before j h in
-      get_or-set_other l.images k (get_or l.apps j 0) image 0 (λ q. omega arith) ∙ before.app_image j h
+      get_or-set_other l.images k (noted l j).node image 0 (λ q. omega arith) ∙ before.app_image j h
 
   -- the applications are the same
   same_apps : (image nodes : ℕ) (F : State) → state_at s (k + 1) ≡ F → F.apps ≡ (state_at s k).apps → nodes ≡ length F.out
@@ -61,8 +63,7 @@ module _ (s : List ℕ) (k : ℕ) (l : Laid) (before : LaidAt s k l) (small : k 
       let at : (j : ℕ) → app_at s (k + 1) j ≡ app_at s k j = λ j. ap (λ (older : List App). get_or older (length older - suc j) no_app) apps in
       record {
         images_long = length-set l.images k image ∙ before.images_long;
-        apps_long = before.apps_long;
-        owns_long = before.owns_long;
+        applications_long = before.applications_long;
         images_are = image_more l.images (state_at s k).images k image before.images_long small before.images_are ∙ sym (ap (λ (G : State). G.images) e ∙ i);
         count_is = before.count_is ∙ ap (length {A = App}) (sym apps);
         functions_are = before.functions_are ∙ ap (λ older. length (of_op 0 older)) (sym apps);
@@ -106,7 +107,9 @@ module _ (s : List ℕ) (k : ℕ) (l : Laid) (before : LaidAt s k l) (small : k 
     laid_app e f p =
         let apps : (state_at s (k + 1)).apps ≡ this ∷ older = ap (λ (G : State). G.apps) e in
         let count = before.count_is in
-        let apps-room : l.count < length l.apps = (let c = before.apps_long in omega arith) in
+        let is_room : l.count < length l.applications = (let c = before.applications_long in omega arith) in
+        let one : Application = record { node = k; own = l.nodes } in
+        let more = λ (P : ℕ → Application → Type 0). noted_more P l.applications l.count one is_room in
         let known : (j : ℕ) → j < l.count → app_at s (k + 1) j ≡ app_at s k j =
         λ j h. ap (λ (xs : List App). get_or xs (length xs - suc j) no_app) apps ∙ earlier_kept older this no_app j (omega arith)
         in
@@ -115,8 +118,7 @@ module _ (s : List ℕ) (k : ℕ) (l : Laid) (before : LaidAt s k l) (small : k 
         in
         record {
           images_long = length-set l.images k (at - 1) ∙ before.images_long;
-          apps_long = length-set l.apps l.count k ∙ before.apps_long;
-          owns_long = length-set l.owns l.count l.nodes ∙ before.owns_long;
+          applications_long = length-set l.applications l.count one ∙ before.applications_long;
           images_are =
               image_more l.images (state_at s k).images k (at - 1) before.images_long small before.images_are
               ∙ ap (λ m. snoc (state_at s k).images (m - 1)) reached
@@ -125,18 +127,17 @@ module _ (s : List ℕ) (k : ℕ) (l : Laid) (before : LaidAt s k l) (small : k 
           functions_are = f ∙ ap (λ xs. length (of_op 0 xs)) (sym apps);
           predicates_are = p ∙ ap (λ xs. length (of_op 6 xs)) (sym apps);
           nodes_are = reached ∙ sym (ap (λ (G : State). length G.out) e);
-          app_before =
-              set_more (λ _ q. q < k + 1) l.apps l.count k apps-room (λ j b. let c = before.app_before j b in omega arith) (omega arith);
+          app_before = more (λ _ a. a.node < k + 1) (λ j b. let c = before.app_before j b in omega arith) (omega arith);
           app_of =
-              set_more (λ j q. node (nodes_of s) q ≡ (app_at s (k + 1) j).of) l.apps l.count k apps-room
+              more (λ j a. node (nodes_of s) a.node ≡ (app_at s (k + 1) j).of)
               (λ j b. before.app_of j b ∙ ap (λ (app : App). app.of) (sym (known j b)))
               (sym is_node ∙ ap (λ (app : App). app.of) (sym newest));
           app_own =
-              set_more (λ j own. own ≡ (app_at s (k + 1) j).own) l.owns l.count l.nodes (let c = before.owns_long in omega arith)
+              more (λ j a. a.own ≡ (app_at s (k + 1) j).own)
               (λ j b. before.app_own j b ∙ ap (λ (app : App). app.own) (sym (known j b)))
               (before.nodes_are ∙ ap (λ (app : App). app.own) (sym newest));
           app_image =
-              set_more (λ j q. get_or (set l.images k (at - 1)) q 0 ≡ (app_at s (k + 1) j).image) l.apps l.count k apps-room
+              more (λ j a. get_or (set l.images k (at - 1)) a.node 0 ≡ (app_at s (k + 1) j).image)
               (λ j b. image_kept (at - 1) j b ∙ ap (λ (app : App). app.image) (sym (known j b)))
               (get_or-set_same l.images k (at - 1) 0 (let c = before.images_long in omega arith)
               ∙ ap (λ m. m - 1) reached ∙ ap (λ (app : App). app.image) (sym newest));

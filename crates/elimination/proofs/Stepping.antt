@@ -18,7 +18,8 @@ use Rattle.theorems.proofs.Laws.Ops.{app_op}
 use Rattle.theorems.proofs.Accepted.{Accepted}
 use Rattle.problem.specs.Stages.{first_same}
 use Rattle.problem.specs.Lays.{Lays}
-use Rattle.elimination.specs.State.{state_at, Laid, LaidAt, StepLays}
+use Rattle.elimination.specs.State.{state_at, LaidAt, StepLays}
+use Rattle.elimination.specs.declared.laid.Laid.{Laid}
 use Rattle.elimination.proofs.Prefix.{nodes_length, state_next, state_done, state_images, state_short}
 use Rattle.elimination.proofs.Repeating.{scan_none, scan_some, step_copy, step_repeat, step_new}
 

@@ -1,107 +1,88 @@
 // A distinct application: its own variable node, then a choice for each earlier application of its symbol, latest first.
-ghost use Rattle.std.specs.Prelude.{◌≡◌, ◌+◌, ◌<◌, ◌≤◌, true, length, take};
-ghost use Rattle.std.proofs.Math.Option.{none};
+ghost use Rattle.std.specs.Prelude.{◌≡◌, ◌+◌, ◌<◌, ◌≤◌, length};
 ghost use Rattle.definitions.specs.Lists.{keep};
 ghost use Rattle.definitions.specs.Problem.Node.{node};
-ghost use Rattle.definitions.specs.Problem.Ops.{op_of, is_app};
 ghost use Rattle.definitions.specs.Problem.Check.{symbols_of, nodes_of};
-ghost use Rattle.definitions.specs.Elimination.{images_of, choices, same_symbol};
-ghost use Rattle.theorems.proofs.Accepted.{Accepted};
-ghost use Rattle.problem.specs.Shape.{Shaped};
-ghost use Rattle.problem.specs.Stages.{first_same};
+ghost use Rattle.definitions.specs.Elimination.{images_of, choice_op, choices, same_symbol};
 ghost use Rattle.problem.specs.Lays.{Lays};
-ghost use Rattle.elimination.specs.State.{state_at, laid_of, LaidAt, StepLays};
+ghost use Rattle.problem.specs.Ops.{byte_of};
+ghost use Rattle.elimination.specs.State.{state_at, LaidAt, StepLays, Taking, NewAt};
 
 use crate::conditions::lay_choice;
-use crate::copies::images_of;
-use crate::tally::Tally;
-use problem::bytes::{number, wide};
-use problem::head::Header;
-use problem::nodes::{arity_of, node_at};
+use crate::laid::{Application, Laid};
+use problem::head::Problem;
+use problem::ops::Op;
 use problem::put::{Node, lay};
-use problem::repeats::same_symbol;
 
-// The choices for node k, after its own variable node: the applications are looked at from the latest on.
-fn lay_choices(
-    problem: &[u8],
-    header: Header,
-    k: usize,
-    work: &mut [u8],
-    images: &[u16],
-    apps: &[u8],
-    owns: &[u16],
-    before: Tally,
-) -> usize
-    requires { Accepted problem.now × Shaped problem.now header × (k < header.nodes) × (21056 ≤ length work.old) × LaidAt problem.now k (laid_of images.now apps.now owns.now before) × (is_app (op_of (node (nodes_of problem.now) k).op) ≡ true) × (first_same (node (nodes_of problem.now) k) (take k (nodes_of problem.now)) ≡ none) }
-    ensures { Lays work.old work.new (before.nodes + 1) result (λ t. choices (node (nodes_of problem.now) k).op (images_of (symbols_of problem.now) (state_at problem.now k).images) t (images_of (symbols_of problem.now) (state_at problem.now k).images (node (nodes_of problem.now) k)) (keep (same_symbol (node (nodes_of problem.now) k)) (state_at problem.now k).apps)) × (before.nodes < result) × (result ≤ 2632) }
+// The op of a choice: between terms for a function, and between formulas for a predicate.
+fn choice_op(op: u8) -> Op
+    ensures { byte_of result ≡ choice_op op }
 {
-    let here = node_at(header, k);
-    let arity = arity_of(problem, header, wide(problem[here + 1]));
-    let xs = images_of(problem, header, k, k, images);
-    let choice = if problem[here] == 0 { 1 } else { 9 };
-    let mut at = before.nodes + 1;
-    let mut i = before.count;
-    while 0 < i {
-        i -= 1;
-        let q = wide(apps[i]);
-        if same_symbol(problem, header, q, k) {
-            let ys = images_of(problem, header, k, q, images);
-            let own = number(owns[i]);
-            at = lay_choice(work, at, choice, arity, xs, ys, own);
-        }
+    if op == Op::Apply.byte() {
+        Op::Choose
+    } else {
+        Op::Select
     }
-    at
 }
 
-// All that is laid for node k: its own variable node, of the next number, and the choices.
-fn lay_application(
-    problem: &[u8],
-    header: Header,
-    k: usize,
-    work: &mut [u8],
-    images: &[u16],
-    apps: &[u8],
-    owns: &[u16],
-    before: Tally,
-) -> usize
-    requires { Accepted problem.now × Shaped problem.now header × (k < header.nodes) × (21056 ≤ length work.old) × LaidAt problem.now k (laid_of images.now apps.now owns.now before) × (is_app (op_of (node (nodes_of problem.now) k).op) ≡ true) × (first_same (node (nodes_of problem.now) k) (take k (nodes_of problem.now)) ≡ none) }
-    ensures { StepLays problem.now k work.old work.new × (result ≡ length (state_at problem.now (k + 1)).out) × (1 ≤ result) }
-{
-    let op = problem[node_at(header, k)];
-    let variable = before.next(op);
-    let symbol = (variable % 256) as u8;
-    let own = Node {
-        op,
-        symbol,
-        a: 0,
-        b: 0,
-        c: 0,
-    };
-    lay(work, before.nodes, own);
-    lay_choices(problem, header, k, work, images, apps, owns, before)
-}
+impl Laid {
+    // The choices for node k, after its own variable node: the applications are looked at from the latest on.
+    #[tactic(auto, using(crate::proofs::Applying::own_fits))]
+    fn lay_choices(&self, problem: &Problem<'_>, k: usize, work: &mut [u8]) -> usize
+        requires { Taking problem.now k self.now work.old × NewAt problem.now k }
+        ensures { Lays work.old work.new (self.now.nodes + 1) result (λ t. choices (node (nodes_of problem.now) k).op (images_of (symbols_of problem.now) (state_at problem.now k).images) t (images_of (symbols_of problem.now) (state_at problem.now k).images (node (nodes_of problem.now) k)) (keep (same_symbol (node (nodes_of problem.now) k)) (state_at problem.now k).apps)) × (self.now.nodes < result) × (result ≤ 2632) }
+    {
+        let node = problem.node(k);
+        let choice = choice_op(node.op);
+        let arity = problem.arity(usize::from(node.symbol));
+        let xs = self.images_of(problem, k);
+        let mut at = self.nodes + 1;
+        for i in (0..self.count).rev() {
+            let earlier = self.applications[i];
+            let q = usize::from(earlier.node);
+            if problem.same_symbol(q, k) {
+                let ys = self.images_of(problem, q);
+                let own = earlier.own;
+                at = lay_choice(work, at, choice, &xs[..arity], &ys[..arity], own);
+            }
+        }
+        at
+    }
 
-// One distinct application more.
-pub fn add_application(
-    problem: &[u8],
-    header: Header,
-    k: usize,
-    work: &mut [u8],
-    images: &mut [u16],
-    apps: &mut [u8],
-    owns: &mut [u16],
-    before: Tally,
-) -> Tally
-    requires { Accepted problem.now × Shaped problem.now header × (k < header.nodes) × (21056 ≤ length work.old) × LaidAt problem.now k (laid_of images.old apps.old owns.old before) × (is_app (op_of (node (nodes_of problem.now) k).op) ≡ true) × (first_same (node (nodes_of problem.now) k) (take k (nodes_of problem.now)) ≡ none) }
-    ensures { LaidAt problem.now (k + 1) (laid_of images.new apps.new owns.new result) × StepLays problem.now k work.old work.new }
-{
-    let op = problem[node_at(header, k)];
-    let at = lay_application(problem, header, k, work, images, apps, owns, before);
-    let i = before.count;
-    let own = before.nodes;
-    let image = at - 1;
-    apps[i] = k as u8;
-    owns[i] = own as u16;
-    images[k] = image as u16;
-    before.applied(op, at)
+    // All that is laid for node k: its own variable node, of the next number, and the choices.
+    #[tactic(auto, using(crate::proofs::Applying::own_fits, crate::proofs::Applying::number_fits))]
+    fn lay_application(&self, problem: &Problem<'_>, k: usize, work: &mut [u8]) -> usize
+        requires { Taking problem.now k self.now work.old × NewAt problem.now k }
+        ensures lays { StepLays problem.now k work.old work.new }
+        ensures reached { result ≡ length (state_at problem.now (k + 1)).out }
+        ensures some { 1 ≤ result }
+    {
+        let op = problem.node(k).op;
+        let own = Node {
+            op,
+            symbol: self.next(op) as u8,
+            a: 0,
+            b: 0,
+            c: 0,
+        };
+        lay(work, self.nodes, own);
+        self.lay_choices(problem, k, work)
+    }
+
+    // One distinct application more.
+    #[tactic(auto, using(crate::proofs::Applying::own_fits, crate::proofs::Applying::place_there, crate::proofs::Applying::next_fits))]
+    pub fn add_application(&mut self, problem: &Problem<'_>, k: usize, work: &mut [u8])
+        requires { Taking problem.now k self.old work.old × NewAt problem.now k }
+        ensures noted { LaidAt problem.now (k + 1) self.new }
+        ensures lays { StepLays problem.now k work.old work.new }
+    {
+        let at = self.lay_application(problem, k, work);
+        self.applications[self.count] = Application {
+            node: k as u8,
+            own: self.nodes as u16,
+        };
+        self.images[k] = (at - 1) as u16;
+        self.nodes = at;
+        self.count_one(problem.node(k).op);
+    }
 }

@@ -1,63 +1,32 @@
-// The images of a node's operands, and copies of nodes that are no applications.
-ghost use Rattle.std.specs.Prelude.{◌≡◌, ◌<◌, ◌≤◌, false, length, get_or, take};
+// Copies of nodes that are no applications.
+ghost use Rattle.std.specs.Prelude.{◌≡◌, ◌+◌, false};
 ghost use Rattle.definitions.specs.Problem.Node.{node};
 ghost use Rattle.definitions.specs.Problem.Ops.{op_of, is_app};
-ghost use Rattle.definitions.specs.Problem.Check.{symbols_of, nodes_of};
-ghost use Rattle.definitions.specs.Elimination.{images_of};
-ghost use Rattle.theorems.proofs.Accepted.{Accepted};
-ghost use Rattle.problem.specs.Shape.{Shaped};
-ghost use Rattle.elimination.specs.State.{state_at, StepLays, three};
+ghost use Rattle.definitions.specs.Problem.Check.{nodes_of};
+ghost use Rattle.elimination.specs.State.{LaidAt, StepLays, Taking};
 
-use problem::bytes::{number, two_at, wide};
-use problem::head::Header;
-use problem::nodes::{Wanted, arity_of, node_at, wants};
+use crate::laid::Laid;
+use problem::head::Problem;
 use problem::put::{Node, lay};
 
-// The image of operand j of node q, 0 where the field is unused; k nodes are taken.
-fn image_at(problem: &[u8], header: Header, k: usize, q: usize, j: usize, images: &[u16]) -> usize
-    requires { Accepted problem.now × Shaped problem.now header × (q ≤ k) × (q < header.nodes) × (k ≤ header.nodes) × (j < 3) × (length images.now ≡ 256) × (take k images.now ≡ (state_at problem.now k).images) }
-    ensures { (result ≡ get_or (images_of (symbols_of problem.now) (state_at problem.now k).images (node (nodes_of problem.now) q)) j 0) × (result < 2632) }
-{
-    let at = node_at(header, q);
-    let arity = arity_of(problem, header, wide(problem[at + 1]));
-    if let Wanted::Unused = wants(problem[at], arity, j) {
-        return 0;
+impl Laid {
+    // One copy, operands replaced by their images.
+    #[tactic(auto, using(crate::proofs::Copying::copy_fits))]
+    pub fn copy_node(&mut self, problem: &Problem<'_>, k: usize, work: &mut [u8])
+        requires { Taking problem.now k self.old work.old × (is_app (op_of (node (nodes_of problem.now) k).op) ≡ false) }
+        ensures noted { LaidAt problem.now (k + 1) self.new }
+        ensures lays { StepLays problem.now k work.old work.new }
+    {
+        let [a, b, c] = self.images_of(problem, k);
+        let copy = Node {
+            op: problem.node(k).op,
+            symbol: 0,
+            a,
+            b,
+            c,
+        };
+        lay(work, self.nodes, copy);
+        self.images[k] = self.nodes as u16;
+        self.nodes += 1;
     }
-    let operand = two_at(problem, at + 2 + 2 * j);
-    number(images[operand])
-}
-
-// The images of the operands of node q that are in use, with 0 after them.
-pub fn images_of(problem: &[u8], header: Header, k: usize, q: usize, images: &[u16]) -> [usize; 3]
-    requires { Accepted problem.now × Shaped problem.now header × (q ≤ k) × (q < header.nodes) × (k ≤ header.nodes) × (length images.now ≡ 256) × (take k images.now ≡ (state_at problem.now k).images) }
-    ensures { (result ≡ three (images_of (symbols_of problem.now) (state_at problem.now k).images (node (nodes_of problem.now) q))) × (get_or result 0 0 < 2632) × (get_or result 1 0 < 2632) × (get_or result 2 0 < 2632) }
-{
-    let a = image_at(problem, header, k, q, 0, images);
-    let b = image_at(problem, header, k, q, 1, images);
-    let c = image_at(problem, header, k, q, 2, images);
-    [a, b, c]
-}
-
-// One copy, operands replaced by their images, after the count nodes already laid.
-pub fn copy_node(
-    problem: &[u8],
-    header: Header,
-    k: usize,
-    work: &mut [u8],
-    images: &[u16],
-    count: usize,
-)
-    requires { Accepted problem.now × Shaped problem.now header × (k < header.nodes) × (21056 ≤ length work.old) × (length images.now ≡ 256) × (take k images.now ≡ (state_at problem.now k).images) × (count ≡ length (state_at problem.now k).out) × (is_app (op_of (node (nodes_of problem.now) k).op) ≡ false) }
-    ensures { StepLays problem.now k work.old work.new }
-{
-    let xs = images_of(problem, header, k, k, images);
-    let op = problem[node_at(header, k)];
-    let copy = Node {
-        op,
-        symbol: 0,
-        a: xs[0],
-        b: xs[1],
-        c: xs[2],
-    };
-    lay(work, count, copy);
 }

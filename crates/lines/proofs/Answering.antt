@@ -1,26 +1,20 @@
--- What an answer says goes by what it is read as, and `decide` promises the definition's answer. Assumes nothing.
+-- `decide` promises the definition's answer, and so its words. Assumes nothing.
 use mathlib.Core.Path.{◌≡◌, sym, ap, ap₂, ◌∙◌}
 use Prim.Native.Nat.{ℕ, ◌≤◌, ◌<◌}
-use mathlib.Core.List.{List, ◌++◌}
+use mathlib.Core.List.{List}
 use mathlib.Core.Logic.{inl, inr}
 use lib.ListN.{length}
 use borrow.Author.Tests.{lt-ltb}
-use Rattle.definitions.specs.Night.{word, decimal, REFUSED, said}
+use Rattle.definitions.specs.Night.{said}
 use Rattle.definitions.specs.Operations.Answers.{refused, eliminate_refusal, buffers_refusal, decide_refusal, decide_answer}
 use Rattle.definitions.specs.Problem.Check.{refuse}
 use Rattle.definitions.specs.Problem.Asked.{refusal_of, last_node}
 use Rattle.definitions.specs.Operations.Promises.{DecidePromise}
-use Rattle.definitions.specs.Operations.Readings.{refusal_read, decision_read}
-use Rattle.definitions.specs.declared.Refusal.{Refusal}
+use Rattle.definitions.specs.Operations.Readings.{decision_read}
 use Rattle.definitions.specs.declared.Decision.{Decision}
+use Rattle.definitions.specs.declared.Refusal.{Refusal}
+use Rattle.std.specs.Prelude.{Result}
 use Rattle.theorems.proofs.Laws.Tests.{split}
-
-pub said_as : {answer known : Decision} → answer ≡ known → said (decision_read known) ≡ said (decision_read answer)
-said_as e = ap (λ (a : Decision). said (decision_read a)) (sym e)
-
-pub said_refused : (r : Refusal) {n p : ℕ} → n ≡ (refusal_read r).number → p ≡ (refusal_read r).place
-    → word REFUSED ++ word (decimal n) ++ word (decimal p) ≡ said (decision_read (Decision.Refused r))
-said_refused r number place = ap₂ (λ (n p : ℕ). word REFUSED ++ word (decimal n) ++ word (decimal p)) number place
 
 -- bytes with no header are refused whatever node is named
 module _ (s : List ℕ) (root budget work room : ℕ) where
@@ -37,7 +31,7 @@ named_last s root budget work room f =
       | inr h ↦ ap (λ (n : ℕ). decide_answer s n budget work room) (f h)
     ]
 
-pub said_decided : {budget root : ℕ} {s work witness work' witness' : List ℕ} {answer : Decision} → (8 ≤ length s → root ≡ last_node s)
+pub said_decided : {budget root : ℕ} {s work witness work' witness' : List ℕ} {answer : Result Decision Refusal} → (8 ≤ length s → root ≡ last_node s)
     → DecidePromise budget root s work witness answer work' witness' → length work ≡ 21056 → length witness ≡ 206
     → said (decision_read answer) ≡ said (decide_answer s (last_node s) budget 21056 206)
 said_decided {budget} {root} {s} last promise w v =

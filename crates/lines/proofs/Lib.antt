@@ -1,5 +1,3 @@
-pub mod Answering
-pub mod Budget
+mod Decimal
+mod Answering
 pub mod Reading
-pub mod Spelling
-pub mod Writing

@@ -4,89 +4,63 @@
 // input.
 #![tactic(auto)]
 
-ghost use Rattle.std.specs.Prelude.{◌≤◌, length};
-
+use lines::Ending;
+use lines::line::Line;
 use problem::bytes::two_at;
 use reading::fill;
 use std::io;
 use std::io::Read;
 
-// What reading a job comes to.
-#[derive(Clone, Copy)]
-enum Next {
-    Answered,
-    Ended,
-    Cut,
-}
-
 // Writes a line whole at once.
-fn write_line(rt: &impl Print, text: &[u8], end: usize) -> io::Result<()>
-    requires { end ≤ length text.now }
-{
-    rt.write_all(&text[..end])
-}
-
-fn write_title(rt: &impl Print) -> io::Result<()> {
-    let mut text = [0u8; 80];
-    let end = lines::title_line(&mut text);
-    write_line(rt, &text, end)
-}
-
-fn write_closing(rt: &impl Print, cut: bool, jobs: u64) -> io::Result<()> {
-    let mut text = [0u8; 80];
-    let end = lines::closing_line(&mut text, cut, jobs);
-    write_line(rt, &text, end)
+fn write_line(rt: &impl Print, line: &Line) -> io::Result<()> {
+    rt.write_all(line.as_bytes())
 }
 
 // Decides job k and writes its line.
 fn answer(rt: &impl Print, k: u64, budget: u64, problem: &[u8]) -> io::Result<()> {
     let mut work = [0u8; 21056];
     let mut witness = [0u8; 206];
-    let mut text = [0u8; 80];
-    let end = lines::job_line(&mut text, k, budget, problem, &mut work, &mut witness);
-    write_line(rt, &text, end)
+    let line = lines::job_line(k, budget, problem, &mut work, &mut witness);
+    write_line(rt, &line)
 }
 
-// The rest of job k: its problem bytes fill the lent slice.
+// The rest of job k: its problem bytes fill the lent slice. Where they do not, the input is cut.
 fn read_problem<R: Read>(
     rt: &impl Print,
     input: &mut R,
     k: u64,
     budget: u64,
     problem: &mut [u8],
-) -> io::Result<Next> {
+) -> io::Result<Option<Ending>> {
     if fill(input, problem) < problem.len() {
-        return Ok(Next::Cut);
+        return Ok(Some(Ending::Cut));
     }
     answer(rt, k, budget, problem)?;
-    Ok(Next::Answered)
+    Ok(None)
 }
 
-// Reads job k and answers it. No byte past the job is waited for.
-fn one_job<R: Read>(rt: &impl Print, input: &mut R, k: u64) -> io::Result<Next> {
+// Reads job k and answers it, or says how the input ends. No byte past the job is waited for.
+fn one_job<R: Read>(rt: &impl Print, input: &mut R, k: u64) -> io::Result<Option<Ending>> {
     let mut head = [0u8; 10];
-    let got = fill(input, &mut head);
-    if got == 0 {
-        return Ok(Next::Ended);
+    match fill(input, &mut head) {
+        10 => {
+            let budget = lines::budget_of(&head);
+            let length = two_at(&head, 8);
+            let mut room = [0u8; 65536];
+            read_problem(rt, input, k, budget, &mut room[..length])
+        }
+        0 => Ok(Some(Ending::Whole)),
+        _ => Ok(Some(Ending::Cut)),
     }
-    if got < 10 {
-        return Ok(Next::Cut);
-    }
-    let budget = lines::budget_of(&head);
-    let length = two_at(&head, 8);
-    let mut room = [0u8; 65536];
-    read_problem(rt, input, k, budget, &mut room[..length])
 }
 
 // Jobs are numbered from 1. A loop has to end, and nothing says that the input does: no run reads so many jobs.
 fn main(rt: HostRuntime) -> io::Result<()> {
-    write_title(&rt)?;
+    write_line(&rt, &lines::title_line())?;
     let mut input = rt.reader();
     for jobs in 0..u64::MAX {
-        match one_job(&rt, &mut input, jobs + 1)? {
-            Next::Answered => {}
-            Next::Ended => return write_closing(&rt, false, jobs),
-            Next::Cut => return write_closing(&rt, true, jobs),
+        if let Some(ending) = one_job(&rt, &mut input, jobs + 1)? {
+            return write_line(&rt, &lines::closing_line(ending, jobs));
         }
     }
     Ok(())

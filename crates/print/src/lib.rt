@@ -1,65 +1,65 @@
-// Lines on standard output, for the programs whose output is compared with a file.
+// What the lines of the programs whose output is compared with a file are made of.
 #![tactic(auto)]
 
-use definitions::{Refusal, number_of, place_of};
-use std::io;
+use definitions::{Decision, Refusal, Verdict};
+use std::fmt;
 
-pub fn text(rt: &impl Print, words: &[u8]) -> io::Result<()> {
-    rt.write_all(words)
-}
+// A refusal: its number and its place.
+#[derive(Drop)]
+pub struct Refused(pub Refusal);
 
-// A number after the word that says what it is.
-pub fn labelled(rt: &impl Print, label: &[u8], number: u64) -> io::Result<()> {
-    text(rt, label)?;
-    print!(rt; "{number}")
-}
-
-// A line begins with the operation and the case.
-pub fn head(rt: &impl Print, operation: &[u8], name: &[u8]) -> io::Result<()> {
-    text(rt, operation)?;
-    text(rt, name)
-}
-
-pub fn end(rt: &impl Print) -> io::Result<()> {
-    text(rt, b"\n")
-}
-
-// Bytes in hexadecimal, to the end of the line.
-pub fn bytes(rt: &impl Print, all: &[u8]) -> io::Result<()> {
-    text(rt, b":")?;
-    spaced(rt, all, Base::Sixteen)?;
-    end(rt)
-}
-
-// Small numbers in decimal, after the word that says what they are.
-pub fn numbers(rt: &impl Print, label: &[u8], all: &[u8]) -> io::Result<()> {
-    text(rt, label)?;
-    spaced(rt, all, Base::Ten)
-}
-
-#[derive(Clone, Copy)]
-enum Base {
-    Ten,
-    Sixteen,
-}
-
-fn spaced(rt: &impl Print, all: &[u8], base: Base) -> io::Result<()> {
-    for value in all {
-        one(rt, *value, base)?;
-    }
-    Ok(())
-}
-
-fn one(rt: &impl Print, value: u8, base: Base) -> io::Result<()> {
-    match base {
-        Base::Ten => print!(rt; " {value}"),
-        Base::Sixteen => print!(rt; " {value:02x}"),
+impl fmt::Display for Refused {
+    fn fmt<W: fmt::Write>(&self, f: &mut fmt::Formatter<W>) -> fmt::Result {
+        let number = self.0.number();
+        let place = self.0.place();
+        write!(f, "refused {number} {place}")
     }
 }
 
-// A refusal's line ends with its number and its place.
-pub fn refusal(rt: &impl Print, refused: Refusal) -> io::Result<()> {
-    labelled(rt, b": refused ", number_of(refused) as u64)?;
-    labelled(rt, b" ", place_of(refused) as u64)?;
-    end(rt)
+// A decision: the verdict, how many places were tried, and the product.
+#[derive(Drop)]
+pub struct Decided(pub Decision);
+
+impl fmt::Display for Decided {
+    fn fmt<W: fmt::Write>(&self, f: &mut fmt::Formatter<W>) -> fmt::Result {
+        let verdict = match self.0.verdict {
+            Verdict::Valid => "valid",
+            Verdict::Falsified { .. } => "falsified",
+            Verdict::Stopped => "stopped",
+        };
+        let tried = self.0.tried;
+        let product = self.0.product;
+        write!(f, "{verdict} tried {tried} product {product}")
+    }
+}
+
+// Bytes in hexadecimal, a space before each.
+#[derive(Drop)]
+pub struct Hexadecimal<'a>(pub &'a [u8]);
+
+impl<'a> fmt::Display for Hexadecimal<'a> {
+    fn fmt<W: fmt::Write>(&self, f: &mut fmt::Formatter<W>) -> fmt::Result {
+        for byte in self.0 {
+            write!(f, " {byte:02x}")?;
+        }
+        Ok(())
+    }
+}
+
+// Small numbers in decimal, a space before each.
+#[derive(Drop)]
+pub struct Decimal<'a>(pub &'a [u8]);
+
+impl<'a> fmt::Display for Decimal<'a> {
+    fn fmt<W: fmt::Write>(&self, f: &mut fmt::Formatter<W>) -> fmt::Result {
+        for number in self.0 {
+            write!(f, " {number}")?;
+        }
+        Ok(())
+    }
+}
+
+// The first bytes of a slice, or all where it has no more.
+pub fn first(bytes: &[u8], count: usize) -> &[u8] {
+    bytes.get(..count).unwrap_or(bytes)
 }

@@ -1,5 +1,6 @@
+pub mod Finding
 pub mod Stages
 pub mod NodeLaws
-pub mod Scans
 pub mod Putting
 pub mod Laying
+pub mod Scans

@@ -4,7 +4,7 @@ use mathlib.Core.Path.{◌≡◌, refl, sym, ap, ◌∙◌}
 use Prim.Native.Nat.{ℕ, suc, ◌+◌, ◌≤◌, ◌<◌}
 use native.Mathlib.Numerals.{add-one}
 use native.Mathlib.Omega.{arith}
-use mathlib.Core.Bool.{Bool, true, false, not, ◌&&◌, ◌||◌, and-false}
+use mathlib.Core.Bool.{Bool, true, false, not, ◌&&◌, ◌||◌, and-false, false≢true}
 use mathlib.Core.List.{List, [], ◌∷◌}
 use mathlib.Core.Option.{Option, none, some}
 use lib.ListN.{length, take, drop, drop_of_length-le}
@@ -16,7 +16,11 @@ use Rattle.definitions.specs.Problem.Node.{Node, node, no_node, same}
 use Rattle.definitions.specs.Problem.Check.{distinct}
 use Rattle.theorems.proofs.Laws.Tests.{none≢some}
 use Rattle.theorems.proofs.Laws.Scans.{failing_from, fails_here, fails_later, fails_nowhere}
-use Rattle.problem.specs.Stages.{one_symbol, first_same}
+use Rattle.std.specs.Prelude as std
+use Rattle.std.specs.Option.{is_some}
+use Rattle.problem.specs.declared.put.Node as put
+use Rattle.problem.specs.Nodes.{node_read}
+use Rattle.problem.specs.Stages.{found_of, first_same}
 
 -- some member passes a test if and only if the scan for the first such member finds one
 module _ {A : Type 0} (f : A → Bool) where
@@ -39,26 +43,25 @@ module _ {A : Type 0} (f : A → Bool) where
       go true rec e' = refl
       go false rec e' = rec e'
 
--- two nodes are compared field by field: the first that differs, or the last, decides
-module _ (m n : Node) where
-  pub op_differs : (m.op ≡ n.op → ⊥) → one_symbol m n ≡ false
-  op_differs x = simp (ne_eqb _ _ x)
+-- nodes are the same field by field
+fields_same : (a b c d e : Bool) → a && (b && (c && (d && e))) ≡ a && b && c && d && e
+fields_same false b c d e = refl
+fields_same true false c d e = refl
+fields_same true true false d e = refl
+fields_same true true true false e = refl
+fields_same true true true true e = refl
 
-  pub symbol_decides : m.op ≡ n.op → one_symbol m n ≡ eqb m.sym n.sym
-  symbol_decides p = simp (eq-eqb _ _ p)
+pub same_fields : (m n : put.Node)
+    → eqb m.op n.op && (eqb m.symbol n.symbol && (eqb m.a n.a && (eqb m.b n.b && eqb m.c n.c))) ≡ same (node_read m) (node_read n)
+same_fields m n = fields_same (eqb m.op n.op) (eqb m.symbol n.symbol) (eqb m.a n.a) (eqb m.b n.b) (eqb m.c n.c)
 
-  pub head_differs : one_symbol m n ≡ false → same m n ≡ false
-  head_differs e = simp e
+pub none_found : (found : std.Option ℕ) {b : Bool} → is_some found ≡ not b → b ≡ true → found_of found ≡ none
+none_found std.None p e = refl
+none_found (std.Some k) p e = absurd (false≢true (sym (p ∙ ap not e)))
 
-  module _ (e : one_symbol m n ≡ true) where
-    pub a_differs : (m.a ≡ n.a → ⊥) → same m n ≡ false
-    a_differs x = simp (e, ne_eqb _ _ x)
-
-    pub b_differs : m.a ≡ n.a → (m.b ≡ n.b → ⊥) → same m n ≡ false
-    b_differs r x = simp (e, eq-eqb _ _ r, ne_eqb _ _ x)
-
-    pub c_decides : m.a ≡ n.a → m.b ≡ n.b → same m n ≡ eqb m.c n.c
-    c_decides r u = simp (e, eq-eqb _ _ r, eq-eqb _ _ u)
+pub some_found : (found : std.Option ℕ) {b : Bool} → is_some found ≡ not b → b ≡ false → (k : ℕ) × (found_of found ≡ some k)
+some_found std.None p e = absurd (false≢true (p ∙ ap not e))
+some_found (std.Some k) p e = (k, refl)
 
 -- the first node before node k, from node j on, that is the same as node k
 abbrev unlike : List Node → ℕ → Node → Bool

@@ -1,19 +1,15 @@
 -- What refuses a table, by how far the conditions have been tried: the first that holds. Conditions are counted from 0, and condition k
 -- refuses with number k + 1. Assumes nothing.
-use mathlib.Core.Path.{◌≡◌, sym, ap, ◌∙◌, subst}
+use mathlib.Core.Path.{◌≡◌, sym, ap, ◌∙◌}
 use Prim.Native.Nat.{ℕ, zero, suc}
 use mathlib.Core.Bool.{Bool, true, false}
 use mathlib.Core.List.{List, [], ◌∷◌}
 use mathlib.Core.Option.{Option, none, some}
 use lib.ListN.{get_or, take}
 use Rattle.definitions.specs.Problem.Check.{Refused, refuse, refuse_if, refuse_at, layout_conditions, layout_refusal}
-use Rattle.definitions.specs.declared.Refusal.{Refusal}
 use Rattle.theorems.proofs.Laws.First.{AllNone, first_at_lem}
-use Rattle.problem.specs.declared.bytes.Found.{Found}
-use Rattle.problem.specs.declared.head.Head.{Head}
-use Rattle.problem.specs.declared.head.Header.{Header}
-use Rattle.problem.specs.Shape.{Shaped}
-use Rattle.problem.specs.Stages.{found_of, Passed, RefusedBy, HeadRead}
+use Rattle.std.specs.Prelude as std
+use Rattle.problem.specs.Stages.{found_of, Passed}
 
 -- the first that holds refuses with this number and place
 abbrev pub First : List ℕ → ℕ → ℕ → Type 0
@@ -48,18 +44,10 @@ module _
 module _
     (s : List ℕ) (k : ℕ) (search : Option ℕ)
     (is : get_or (layout_conditions s) k none ≡ refuse_at search (suc k)) (p : Passed k s)
-    {found : Found} (searched : found_of found ≡ search) where
-  pub refused_found : {place : ℕ} → found ≡ Found.At place → First s (suc k) place
+    {found : std.Option ℕ} (searched : found_of found ≡ search) where
+  pub refused_found : {place : ℕ} → found ≡ std.Some place → First s (suc k) place
   refused_found {place} e =
       refused_at s k (refuse (suc k) place) p (is ∙ ap (λ (o : Option ℕ). refuse_at o (suc k)) (sym searched ∙ ap found_of e))
 
-  pub passed_nothing : found ≡ Found.Nothing → Passed (suc k) s
+  pub passed_nothing : found ≡ std.None → Passed (suc k) s
   passed_nothing e = passed_next s k p (is ∙ ap (λ (o : Option ℕ). refuse_at o (suc k)) (sym searched ∙ ap found_of e))
-
--- the header has been read
-module _ (s : List ℕ) {head : Head} (read : HeadRead s head) where
-  pub head_refused : {r : Refusal} → head ≡ Head.Bad r → RefusedBy s r
-  head_refused e = subst (HeadRead s) e read
-
-  pub head_passed : {h : Header} → head ≡ Head.Fine h → Shaped s h × Passed 5 s
-  head_passed e = subst (HeadRead s) e read

@@ -1,5 +1,6 @@
 pub mod Lays
 pub mod Nodes
+pub mod Ops
 pub mod Shape
 pub mod Stages
 pub mod Wanted

@@ -1,163 +1,150 @@
 // The nodes: condition 7, each node after those before it.
-ghost use Rattle.std.specs.Prelude.{◌≡◌, ◌+◌, ◌*◌, ◌<◌, ◌≤◌, [], get_or, take};
+ghost use Rattle.std.specs.Prelude.{◌≡◌, ◌<◌, [], take};
 ghost use Rattle.definitions.specs.Problem.Node.{node};
-ghost use Rattle.definitions.specs.Problem.Ops.{op_of, sort_of, same_sort, term, operand_sorts, arity, count_of, node_right, symbol_right, fields_of};
-ghost use Rattle.definitions.specs.Problem.Check.{symbols_of, nodes_of, first_wrong};
-ghost use Rattle.problem.specs.Shape.{Shaped};
+ghost use Rattle.definitions.specs.Problem.Ops.{op_of, sort_of, same_sort, term, operand_sorts, arity, sorts_of, count_of, node_right, symbol_right};
+ghost use Rattle.definitions.specs.Problem.Check.{symbols_of, nodes_of, node_count, first_wrong};
+ghost use Rattle.problem.specs.Nodes.{node_read};
+ghost use Rattle.problem.specs.Ops.{op_read};
 ghost use Rattle.problem.specs.Stages.{found_of};
-ghost use Rattle.problem.specs.Wanted.{wanted_read, wanted_of, slot_right};
+ghost use Rattle.problem.specs.Wanted.{sort_read, wanted_read, sort_wanted, slot_right};
 
-use crate::bytes::{Found, two_at, wide};
-use crate::head::Header;
+use crate::head::Problem;
+use crate::ops::{Op, Sort};
+use crate::put::Node;
 
-// Where node k stands.
-pub fn node_at(header: Header, k: usize) -> usize
-    requires { (header.symbols ≤ 32) × (k ≤ 256) }
-    ensures { result ≡ 8 + header.symbols + 8 * k }
-{
-    8 + header.symbols + 8 * k
-}
-
-// The sort of a node is read off its op: ops 0 and 1 are terms.
-pub fn is_term(s: &[u8], header: Header, k: usize) -> bool
-    requires { Shaped s.now header × (k < header.nodes) }
-    ensures { result ≡ same_sort (sort_of (op_of (node (nodes_of s.now) k).op)) term }
-{
-    s[node_at(header, k)] < 2
-}
-
-// The arity of a symbol; 0 past the last.
-pub fn arity_of(s: &[u8], header: Header, k: usize) -> usize
-    requires { Shaped s.now header }
-    ensures { (result ≡ arity (symbols_of s.now) k) × (result < 16) }
-{
-    if k < header.symbols {
-        wide(s[8 + k]) % 16
-    } else {
-        0
+impl<'a> Problem<'a> {
+    pub fn symbol_bytes(&self) -> &'a [u8]
+        ensures { result.now ≡ symbols_of self.now }
+    {
+        &self.bytes[8..8 + self.symbols]
     }
-}
 
-// The symbol field of a node of an op is right: a known symbol of the op's kind, and 0 where the op has none.
-fn symbol_right(s: &[u8], header: Header, op: u8, k: usize) -> bool
-    requires { Shaped s.now header }
-    ensures { result ≡ symbol_right (symbols_of s.now) (op_of op) k }
-{
-    if op == 0 {
-        return k < header.symbols && s[8 + k] < 4;
+    // Node k.
+    #[tactic(auto, using(crate::proofs::NodeLaws::node_stands))]
+    pub fn node(&self, k: usize) -> Node
+        requires { k < node_count self.now }
+        ensures { node_read result ≡ node (nodes_of self.now) k }
+    {
+        Node::read(self.bytes, 8 + self.symbols + 8 * k)
     }
-    if op == 6 {
-        return k < header.symbols && (16 <= s[8 + k] && s[8 + k] < 20);
+
+    // The sort of a node is read off its op.
+    pub fn is_term(&self, k: usize) -> bool
+        requires { k < node_count self.now }
+        ensures { result ≡ same_sort (sort_of (op_of (node (nodes_of self.now) k).op)) term }
+    {
+        Op::from(self.node(k).op).is_term()
     }
-    op < 10 && k == 0
-}
 
-// What a node wants at an operand field.
-#[derive(Clone, Copy)]
-pub enum Wanted {
-    Unused,
-    Term,
-    Formula,
-}
+    #[tactic(auto, using(crate::proofs::NodeLaws::formula_not_term))]
+    fn has_sort(&self, k: usize, sort: Sort) -> bool
+        requires { k < node_count self.now }
+        ensures { result ≡ same_sort (sort_of (op_of (node (nodes_of self.now) k).op)) (sort_read sort) }
+    {
+        match sort {
+            Sort::Term => self.is_term(k),
+            Sort::Formula => !self.is_term(k),
+        }
+    }
 
-// What a node of an op, with a symbol of this arity, wants at operand field j.
-pub fn wants(op: u8, arity: usize, j: usize) -> Wanted
-    requires { j < 3 }
-    ensures { wanted_read result ≡ wanted_of op arity j }
-{
-    match op {
-        0 | 6 => {
-            if j < arity {
-                Wanted::Term
-            } else {
-                Wanted::Unused
+    // The arity of a symbol; 0 past the last.
+    pub fn arity(&self, symbol: usize) -> usize
+        ensures { (result ≡ arity (symbols_of self.now) symbol) × (result < 16) }
+    {
+        match self.symbol_bytes().get(symbol) {
+            Some(byte) => usize::from(*byte % 16),
+            None => 0,
+        }
+    }
+
+    // How many operand fields of a node of this problem are in use.
+    pub fn in_use(&self, node: Node) -> usize
+        ensures { result ≡ count_of (sorts_of (symbols_of self.now) (node_read node)) }
+    {
+        Op::from(node.op).in_use(self.arity(usize::from(node.symbol)))
+    }
+
+    // The symbol field of a node of an op is right: a known symbol of the op's kind, and 0 where the op has none.
+    fn symbol_right(&self, op: Op, symbol: u8) -> bool
+        ensures { result ≡ symbol_right (symbols_of self.now) (op_read op) symbol }
+    {
+        let byte = self.symbol_bytes().get(usize::from(symbol));
+        match op {
+            Op::Apply => matches!(byte, Some(0..4)),
+            Op::Test => matches!(byte, Some(16..20)),
+            Op::Unknown => false,
+            _ => symbol == 0,
+        }
+    }
+
+    // An operand of node k is right for what is wanted there.
+    #[tactic(auto, using(crate::proofs::NodeLaws::slot_later, crate::proofs::NodeLaws::slot_earlier))]
+    fn operand_right(&self, k: usize, wanted: Option<Sort>, operand: u16) -> bool
+        requires { k < node_count self.now }
+        ensures { result ≡ slot_right (take k (nodes_of self.now)) (wanted_read wanted) operand }
+    {
+        let operand = usize::from(operand);
+        match wanted {
+            None => operand == 0,
+            Some(sort) => operand < k && self.has_sort(operand, sort),
+        }
+    }
+
+    // Node k is right after those before it.
+    #[tactic(auto, using(crate::proofs::NodeLaws::node_fields))]
+    pub fn node_right(&self, k: usize) -> bool
+        requires { k < node_count self.now }
+        ensures { result ≡ node_right (symbols_of self.now) (take k (nodes_of self.now)) (node (nodes_of self.now) k) }
+    {
+        let node = self.node(k);
+        let op = Op::from(node.op);
+        let arity = self.arity(usize::from(node.symbol));
+        self.symbol_right(op, node.symbol)
+            && self.operand_right(k, op.wants(arity, 0), node.a)
+            && self.operand_right(k, op.wants(arity, 1), node.b)
+            && self.operand_right(k, op.wants(arity, 2), node.c)
+    }
+
+    // The number of the first node that is not right.
+    pub fn first_wrong(&self) -> Option<usize>
+        ensures { found_of result ≡ first_wrong (symbols_of self.now) [] (nodes_of self.now) }
+    {
+        for k in 0..self.nodes {
+            if !self.node_right(k) {
+                return Some(k);
             }
         }
-        1 => {
-            if j == 0 {
-                Wanted::Formula
-            } else {
-                Wanted::Term
-            }
-        }
-        2 => { if j < 2 { Wanted::Term } else { Wanted::Unused } }
-        3 => {
-            if j == 0 {
-                Wanted::Formula
-            } else {
-                Wanted::Unused
-            }
-        }
-        4 | 5 => {
-            if j < 2 {
-                Wanted::Formula
-            } else {
-                Wanted::Unused
-            }
-        }
-        9 => Wanted::Formula,
-        _ => Wanted::Unused,
+        None
     }
 }
 
-// How many operand fields a node of an op uses, with a symbol of this arity.
-pub fn in_use(op: u8, arity: usize) -> usize
-    ensures { result ≡ count_of (operand_sorts (op_of op) arity) }
-{
-    match op {
-        0 | 6 => arity,
-        1 | 9 => 3,
-        2 | 4 | 5 => 2,
-        3 => 1,
-        _ => 0,
-    }
-}
-
-// Operand field j of node k is right for what is wanted there.
-fn operand_right(s: &[u8], header: Header, k: usize, j: usize, want: Wanted) -> bool
-    requires { Shaped s.now header × (k < header.nodes) × (j < 3) }
-    ensures { result ≡ slot_right (take k (nodes_of s.now)) (wanted_read want) (get_or (fields_of (node (nodes_of s.now) k)) j 0) }
-{
-    let operand = two_at(s, node_at(header, k) + 2 + 2 * j);
-    match want {
-        Wanted::Unused => operand == 0,
-        Wanted::Term => operand < k && is_term(s, header, operand),
-        Wanted::Formula => operand < k && !is_term(s, header, operand),
-    }
-}
-
-// Node k is right after those before it.
-pub fn node_right(s: &[u8], header: Header, k: usize) -> bool
-    requires { Shaped s.now header × (k < header.nodes) }
-    ensures { result ≡ node_right (symbols_of s.now) (take k (nodes_of s.now)) (node (nodes_of s.now) k) }
-{
-    let at = node_at(header, k);
-    let op = s[at];
-    let symbol = wide(s[at + 1]);
-    if !symbol_right(s, header, op, symbol) {
-        return false;
-    }
-    let arity = arity_of(s, header, symbol);
-    if !operand_right(s, header, k, 0, wants(op, arity, 0)) {
-        return false;
-    }
-    if !operand_right(s, header, k, 1, wants(op, arity, 1)) {
-        return false;
-    }
-    operand_right(s, header, k, 2, wants(op, arity, 2))
-}
-
-// The number of the first node that is not right.
-pub fn first_wrong(s: &[u8], header: Header) -> Found
-    requires { Shaped s.now header }
-    ensures { found_of result ≡ first_wrong (symbols_of s.now) [] (nodes_of s.now) }
-{
-    let mut k = 0;
-    while k < header.nodes {
-        if !node_right(s, header, k) {
-            return Found::At(k);
+impl Op {
+    // The sort that a node of this op, with a symbol of this arity, wants at operand field j, if the field is in use.
+    #[tactic(auto, using(crate::proofs::NodeLaws::wants_none, crate::proofs::NodeLaws::wants_term))]
+    pub fn wants(self, arity: usize, j: usize) -> Option<Sort>
+        requires { j < 3 }
+        ensures { wanted_read result ≡ sort_wanted (operand_sorts (op_read self) arity) j }
+    {
+        if self.in_use(arity) <= j {
+            return None;
         }
-        k += 1;
+        match self {
+            Op::Apply | Op::Test | Op::Equal => Some(Sort::Term),
+            Op::Choose if j != 0 => Some(Sort::Term),
+            _ => Some(Sort::Formula),
+        }
     }
-    Found::Nothing
+
+    // How many operand fields a node of this op uses, with a symbol of this arity.
+    pub fn in_use(self, arity: usize) -> usize
+        ensures { result ≡ count_of (operand_sorts (op_read self) arity) }
+    {
+        match self {
+            Op::Apply | Op::Test => arity,
+            Op::Choose | Op::Select => 3,
+            Op::Equal | Op::Both | Op::Either => 2,
+            Op::Negate => 1,
+            Op::Verum | Op::Falsum | Op::Unknown => 0,
+        }
+    }
 }

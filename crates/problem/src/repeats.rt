@@ -1,78 +1,48 @@
 // Repeats: the earliest node with the same op, symbol and operand numbers; and how many applications are distinct.
 ghost use Rattle.std.specs.Prelude.{◌≡◌, ◌<◌, [], length, take};
-ghost use Rattle.definitions.specs.Problem.Node.{node, same};
-ghost use Rattle.definitions.specs.Problem.Check.{nodes_of};
-ghost use Rattle.problem.specs.Shape.{Shaped};
+ghost use Rattle.definitions.specs.Problem.Node.{node};
+ghost use Rattle.definitions.specs.Problem.Check.{nodes_of, node_count, distinct};
+ghost use Rattle.problem.specs.Ops.{byte_of};
 ghost use Rattle.problem.specs.Stages.{found_of, one_symbol, first_same};
 
-use crate::bytes::{Found, two_at};
-use crate::head::Header;
-use crate::nodes::node_at;
+use crate::head::Problem;
+use crate::ops::Op;
 
-// Two nodes have the same op and symbol.
-pub fn same_symbol(s: &[u8], header: Header, j: usize, k: usize) -> bool
-    requires { Shaped s.now header × (j < header.nodes) × (k < header.nodes) }
-    ensures { result ≡ one_symbol (node (nodes_of s.now) j) (node (nodes_of s.now) k) }
-{
-    let a = node_at(header, j);
-    let b = node_at(header, k);
-    if s[a] != s[b] {
-        return false;
+impl<'a> Problem<'a> {
+    // Two nodes have the same op and symbol.
+    pub fn same_symbol(&self, j: usize, k: usize) -> bool
+        requires { (j < node_count self.now) × (k < node_count self.now) }
+        ensures { result ≡ one_symbol (node (nodes_of self.now) j) (node (nodes_of self.now) k) }
+    {
+        let one = self.node(j);
+        let other = self.node(k);
+        one.op == other.op && one.symbol == other.symbol
     }
-    s[a + 1] == s[b + 1]
-}
 
-// Two nodes have the same op, symbol and operand numbers.
-pub fn same_nodes(s: &[u8], header: Header, j: usize, k: usize) -> bool
-    requires { Shaped s.now header × (j < header.nodes) × (k < header.nodes) }
-    ensures { result ≡ same (node (nodes_of s.now) j) (node (nodes_of s.now) k) }
-{
-    if !same_symbol(s, header, j, k) {
-        return false;
-    }
-    let a = node_at(header, j);
-    let b = node_at(header, k);
-    if two_at(s, a + 2) != two_at(s, b + 2) {
-        return false;
-    }
-    if two_at(s, a + 4) != two_at(s, b + 4) {
-        return false;
-    }
-    two_at(s, a + 6) == two_at(s, b + 6)
-}
-
-// The number of the earliest node before node k that is the same.
-pub fn earliest(s: &[u8], header: Header, k: usize) -> Found
-    requires { Shaped s.now header × (k < header.nodes) }
-    ensures { found_of result ≡ first_same (node (nodes_of s.now) k) (take k (nodes_of s.now)) }
-{
-    let mut j = 0;
-    let found = 'scan: loop {
-        if j == k {
-            break 'scan Found::Nothing;
+    // The number of the earliest node before node k that is the same.
+    pub fn earliest(&self, k: usize) -> Option<usize>
+        requires { k < node_count self.now }
+        ensures { found_of result ≡ first_same (node (nodes_of self.now) k) (take k (nodes_of self.now)) }
+    {
+        let node = self.node(k);
+        for j in 0..k {
+            if node == self.node(j) {
+                return Some(j);
+            }
         }
-        if same_nodes(s, header, k, j) {
-            break 'scan Found::At(j);
-        }
-        j += 1;
-    };
-    found
-}
+        None
+    }
 
-// How many applications of an op are distinct: no earlier node is the same.
-pub fn distinct(s: &[u8], header: Header, op: u8) -> usize
-    requires { Shaped s.now header }
-    ensures { result ≡ length (Rattle.definitions.specs.Problem.Check.distinct op [] (nodes_of s.now)) }
-{
-    let mut count = 0;
-    let mut k = 0;
-    while k < header.nodes {
-        if s[node_at(header, k)] == op {
-            if let Found::Nothing = earliest(s, header, k) {
+    // How many applications of an op are distinct: no earlier node is the same.
+    pub fn distinct(&self, op: Op) -> usize
+        ensures { result ≡ length (distinct (byte_of op) [] (nodes_of self.now)) }
+    {
+        let mut count = 0;
+        for k in 0..self.nodes {
+            if self.node(k).op == op.byte() && self.earliest(k).is_none() {
                 count += 1;
             }
         }
-        k += 1;
+        count
     }
-    count
 }

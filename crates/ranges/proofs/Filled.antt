@@ -1,9 +1,8 @@
 -- An array of n numbers that a loop fills from the front, one store a turn or none. Assumes nothing.
-use mathlib.Core.Path.{◌≡◌, refl, sym, subst, ◌∙◌}
+use mathlib.Core.Path.{◌≡◌, refl, ◌∙◌}
 use Prim.Native.Nat.{ℕ, zero, suc, ◌+◌, ◌≤◌, ◌<◌}
 use native.Mathlib.Omega.{arith}
 use mathlib.Core.List.{List}
-use borrow.Author.Count.{below_more}
 use lib.ListN.{length, get_or, set, replicate, length-set}
 use lib.Seq.{get_or-set_other}
 use Rattle.theorems.proofs.Laws.Entries.{set_more}
@@ -30,12 +29,4 @@ module _ (Done : ℕ → ℕ → Type 0) (start : ℕ → ℕ) (n : ℕ) (xs : L
           long = length-set xs k x ∙ f.long;
           done = set_more Done xs k x (let e = f.long in omega arith) f.done d;
           rest = λ i l. get_or-set_other xs k i x 0 (λ e. omega arith) ∙ f.rest i (omega arith);
-        }
-
-    pub filled_kept : Done k (start k) → Filled Done start n (k + 1) xs
-    filled_kept d =
-        record {
-          long = f.long;
-          done = below_more (λ i. Done i (get_or xs i 0)) k f.done (subst (Done k) (sym (f.rest k (omega arith))) d);
-          rest = λ i l. f.rest i (omega arith);
         }

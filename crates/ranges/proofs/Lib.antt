@@ -6,5 +6,6 @@ pub mod Measuring
 pub mod SetLaws
 pub mod SizeLaws
 pub mod TableLaws
+pub mod NodeLaws
 pub mod TopLaws
 pub mod Unions

@@ -1,7 +1,7 @@
 -- The links of the first k nodes of a table in bytes. Node k adds the links between its leaves if it is an equation, and else
 -- none, so that the classes merged at each equation are those of all the links before. Assumes nothing.
 use mathlib.Core.Path.{◌≡◌, refl, sym, ap, ap₂, ◌∙◌}
-use Prim.Native.Nat.{ℕ, ◌+◌, ◌*◌, ◌≤◌, ◌<◌}
+use Prim.Native.Nat.{ℕ, zero, suc, ◌+◌, ◌≤◌, ◌<◌}
 use native.Mathlib.Omega.{arith}
 use native.Mathlib.Numerals.{add-one}
 use mathlib.Core.Bool.{Bool, true, false, ◌&&◌, ◌||◌, or_assoc, or-false}
@@ -13,17 +13,31 @@ use lib.Bits.{bit_or}
 use lib.Dec.{eqb}
 use borrow.Author.Tests.{eq-eqb, ne_eqb}
 use Rattle.definitions.specs.Lists.{any}
-use Rattle.definitions.specs.Problem.Node.{Node, node, no_node, node_at}
-use Rattle.definitions.specs.Problem.Ops.{term, fields_of}
+use Rattle.definitions.specs.Problem.Node.{Node, node, no_node}
+use Rattle.definitions.specs.Problem.Ops.{equal, op_of, term, fields_of}
 use Rattle.definitions.specs.Ranges.{leaf, links, linked}
 use Rattle.theorems.proofs.Laws.Tests.{or_cases}
-use Rattle.ranges.specs.Sets.{in_set, ClassesAre, Apart, Merged}
+use Rattle.ranges.specs.Sets.{in_set, LeafSet, ClassesAre, Apart, Merged}
 use Rattle.ranges.specs.Table.{TableIn, table_in}
 use Rattle.ranges.specs.declared.Shape.{Shape}
 use Rattle.ranges.proofs.SetLaws.{in_or}
 use Rattle.ranges.proofs.LeafLaws.{Known, Leafy, leafy}
-use Rattle.ranges.proofs.TableLaws.{LeafSet, length_table, node_in, equation_in}
+use Rattle.ranges.proofs.TableLaws.{length_table, equation_in}
 use Rattle.ranges.proofs.ClassLaws.{Partition, partition_apart, partition_same, partition_merge, classes_are}
+
+-- an equation's op is number 2
+two : (op : ℕ) → op_of op ≡ equal → op ≡ 2
+two zero e = cc
+two (suc zero) e = cc
+two (suc (suc zero)) e = refl
+two (suc (suc (suc zero))) e = cc
+two (suc (suc (suc (suc zero)))) e = cc
+two (suc (suc (suc (suc (suc zero))))) e = cc
+two (suc (suc (suc (suc (suc (suc zero)))))) e = cc
+two (suc (suc (suc (suc (suc (suc (suc zero))))))) e = cc
+two (suc (suc (suc (suc (suc (suc (suc (suc zero)))))))) e = cc
+two (suc (suc (suc (suc (suc (suc (suc (suc (suc zero))))))))) e = cc
+two (suc (suc (suc (suc (suc (suc (suc (suc (suc (suc op)))))))))) e = cc
 
 any_snoc : (f : Node → Bool) (t : List Node) (n : Node) → any f (t ++ (n ∷ [])) ≡ any f t || f n
 any_snoc f [] n = or-false (f n)
@@ -66,7 +80,7 @@ module _
   t = table_in s shape.nodes
 
   abbrev n : Node
-  n = node_at s (8 * k)
+  n = node t k
 
   -- what node k adds, by whether it is an equation
   adds : (b : Bool) → eqb n.op 2 ≡ b → (u v : ℕ)
@@ -75,19 +89,18 @@ module _
   adds b q u v =
       let l = length_table s shape.nodes in
       linked_next t k u v (omega arith)
-      ∙ ap (λ (m : Node). linked_before t k u v || links t u v m) (node_in s shape.nodes k h)
       ∙ ap (λ (c : Bool). linked_before t k u v || (c && (leaf t n.a u && leaf t n.b v || leaf t n.a v && leaf t n.b u))) q
 
-  pub classes_kept : (n.op ≡ 2 → ⊥) → ClassesBefore t N (k + 1) sets
+  pub classes_kept : (op_of n.op ≡ equal → ⊥) → ClassesBefore t N (k + 1) sets
   classes_kept q =
       partition_same (linked_before t k) (linked_before t (k + 1))
-      (λ u v. adds false (ne_eqb n.op 2 q) u v ∙ or-false (linked_before t k u v)) N sets p
+      (λ u v. adds false (ne_eqb n.op 2 (λ e. q (ap op_of e))) u v ∙ or-false (linked_before t k u v)) N sets p
 
-  pub classes_merged : n.op ≡ 2 → (x y : ℕ) → LeafSet t n.a x → LeafSet t n.b y → (merged : List ℕ)
+  pub classes_merged : op_of n.op ≡ equal → (x y : ℕ) → LeafSet t n.a x → LeafSet t n.b y → (merged : List ℕ)
       → Merged sets (bit_or x y) merged → ClassesBefore t N (k + 1) merged
   classes_merged q x y f g merged m =
       partition_merge (linked_before t k) (linked_before t (k + 1)) N w.few_variables sets merged (bit_or x y) p m (leaf t n.a)
-      (leaf t n.b) ends (adds true (eq-eqb n.op 2 q)) low l.0 r.0 l.1 r.1
+      (leaf t n.b) ends (adds true (eq-eqb n.op 2 (two n.op q))) low l.0 r.0 l.1 r.1
     where
       o : Known t k (term ∷ term ∷ []) (fields_of n)
       o = equation_in w k h q

@@ -7,6 +7,8 @@ use mathlib.Core.Bool.{Bool}
 use mathlib.Core.Option.{Option, none, some}
 use lib.ListN.{length, replicate}
 use borrow.Author.Tests.{lt-ltb, le-ltb}
+use Rattle.std.specs.Prelude as Prelude
+use Rattle.std.specs.Prelude.{Ok, Err, ok_or}
 use Rattle.definitions.specs.Lists.{first_of}
 use Rattle.definitions.specs.Problem.Node.{Node, table_bytes}
 use Rattle.definitions.specs.Problem.Check.{symbols_of, nodes_of, functions_in, predicates_in, Refused, refuse, refuse_if}
@@ -17,17 +19,17 @@ use Rattle.definitions.specs.Operations.Buffers.{over}
 use Rattle.definitions.specs.Operations.Readings.{refusal_read}
 use Rattle.definitions.specs.Operations.Promises.{RangesPromise}
 use Rattle.definitions.specs.declared.Refusal.{Refusal}
-use Rattle.definitions.specs.declared.Measured.{Measured}
 use Rattle.theorems.specs.Asking.{Asks}
 use Rattle.theorems.proofs.Accepted.{Accepted}
 use Rattle.theorems.proofs.Truth.{table_free}
 use Rattle.theorems.proofs.Elimination.Steps.{of_op}
 use Rattle.theorems.proofs.Elimination.Counts.{count_apps}
 use Rattle.theorems.proofs.Fits.{table_short, table_fits}
-use Rattle.elimination.specs.State.{Laid, AllLaid}
+use Rattle.elimination.specs.State.{AllLaid}
+use Rattle.elimination.specs.declared.laid.Laid.{Laid}
 use Rattle.elimination.proofs.Promising.{whole_state, nodes_laid_lem, table_laid, work_kept, work_laid}
-use Rattle.ranges.specs.Table.{table_in, shape_laid, TableIn}
-use Rattle.ranges.specs.Spans.{SpansAre, ProductIs, no_ranges}
+use Rattle.ranges.specs.Table.{table_in, shape_of, TableIn}
+use Rattle.ranges.specs.Spans.{SpansAre, ProductIs}
 use Rattle.ranges.specs.declared.Spans.{Spans}
 use Rattle.theorems.proofs.Tables.Back.{table_back}
 
@@ -48,7 +50,7 @@ module _ (s : List ℕ) (ok : Accepted s) {work work' : List ℕ} {l : Laid} (al
       all.laid.predicates_are ∙ ap (λ (F : State). length (of_op 6 F.apps)) (whole_state s ok)
       ∙ count_apps (symbols_of s) 6 refl (nodes_of s)
 
-  pub table_stands : 21056 ≤ length work' → TableIn work' (shape_laid l)
+  pub table_stands : 21056 ≤ length work' → TableIn work' (shape_of l)
   table_stands long =
       let short = table_short s ok in
       let nodes = nodes_laid_lem s ok all in
@@ -64,7 +66,7 @@ module _ (s : List ℕ) (ok : Accepted s) {work work' : List ℕ} {l : Laid} (al
         few_truths = omega arith;
       }
 
-  module _ {r : Spans} (spans : SpansAre work' (shape_laid l) r) where
+  module _ {r : Spans} (spans : SpansAre work' (shape_of l) r) where
     pub tops_measured : r.tops ≡ padded (tops_of s)
     unfolding tops_of
     tops_measured = spans.tops_are ∙ ap₂ (λ (t : List Node) (n : ℕ). padded (tops t n)) table_read functions_laid
@@ -81,7 +83,7 @@ module _ (s : List ℕ) (root : ℕ) (work : List ℕ) where
   refusal_answered r e = rw e
 
   pub ranges_refused : (r : Refusal) → eliminate_refusal s root (length work) ≡ some (refusal_read r)
-      → RangesPromise root s work (no_ranges r) work
+      → RangesPromise root s work (Err r) work
   ranges_refused r e = record { answers = refusal_answered (refusal_read r) e; work_after_is = work_kept s root work (refusal_read r) e }
 
 module _
@@ -102,7 +104,7 @@ module _
       ap₂ {C = RangesAnswer} (λ (o : Option Refused) (b : List ℕ). record { tops = tops_unless o (tops_of b); answer = unless o (measured b) })
       (last_refusal ∙ q) A.problem
 
-  pub ranges_big : 10 ^ 18 < product a → RangesPromise root s work (no_ranges Refusal.BigProduct) work'
+  pub ranges_big : 10 ^ 18 < product a → RangesPromise root s work (Err Refusal.BigProduct) work'
   ranges_big h =
       record {
         answers = sym (answer_by (some (refuse 13 0)) (ap (λ (b : Bool). first_of (refuse_if b 13 ∷ [])) (lt-ltb (10 ^ 18) (product a) h)));
@@ -113,7 +115,7 @@ module _
   measure truths n = given (record { truths = truths; product = n })
 
   pub ranges_given : (ts : List ℕ) (truths n : ℕ) → ts ≡ padded (tops_of a) → truths ≡ predicates_in (nodes_of a) → n ≡ product a
-      → product a ≤ 10 ^ 18 → RangesPromise root s work (record { tops = ts; answer = Measured.Given truths n }) work'
+      → product a ≤ 10 ^ 18 → RangesPromise root s work (Ok (record { tops = ts; truths = truths; product = n })) work'
   ranges_given ts truths n t p q h =
       record {
         answers =
@@ -122,3 +124,19 @@ module _
             ∙ sym (answer_by none (ap (λ (b : Bool). first_of (refuse_if b 13 ∷ [])) (le-ltb (10 ^ 18) (product a) h)));
         work_after_is = w ∙ work_laid A work e;
       }
+
+-- a product that is given or not, as a Result
+module _ (o : Prelude.Option ℕ) (r : Refusal) (z : Prelude.Result ℕ Refusal) where
+  pub product_told : (n : ℕ) → z ≡ ok_or o r → z ≡ Ok n → o ≡ Prelude.Some n
+  product_told n p q = go o (sym p ∙ q)
+    where
+      go : (o : Prelude.Option ℕ) → ok_or o r ≡ Ok n → o ≡ Prelude.Some n
+      go (Prelude.Some x) e = cc
+      go Prelude.None e = cc
+
+  pub no_product_told : (x : Refusal) → z ≡ ok_or o r → z ≡ Err x → (o ≡ Prelude.None) × (x ≡ r)
+  no_product_told x p q = go o (sym p ∙ q)
+    where
+      go : (o : Prelude.Option ℕ) → ok_or o r ≡ Err x → (o ≡ Prelude.None) × (x ≡ r)
+      go (Prelude.Some y) e = absurd cc
+      go Prelude.None e = (refl, cc)

@@ -1,21 +1,32 @@
 -- Counts of a set, ranks in a class, and the list of tops that they fill. Assumes nothing.
 use mathlib.Core.Path.{◌≡◌, refl, sym, ap, ap₂, ◌∙◌}
-use Prim.Native.Nat.{ℕ, zero, suc, ◌+◌, ◌-◌, ◌<◌}
+use Prim.Native.Nat.{ℕ, zero, suc, ◌+◌, ◌-◌, ◌≤◌, ◌<◌}
 use native.Mathlib.Omega.{arith}
 use native.Mathlib.Numerals.{add-one}
+use native.Mathlib.Nat.{add_comm}
 use mathlib.Core.Bool.{Bool, cond}
-use mathlib.Core.List.{List, [], ◌∷◌, ◌++◌, map}
+use mathlib.Core.List.{List, [], ◌∷◌, ◌++◌, map, map-id}
 use lib.ListN.{length, get_or, take, set, replicate, get_or-append}
 use lib.Seq.{take_at, set_at, append_snoc, ext_get_or}
+use Rattle.std.specs.List.{count_by, range_with_len}
+use Rattle.std.proofs.lemmas.List.FromFn.{sum_by-map-range_with_len_more}
 use Rattle.definitions.specs.Lists.{count_from, below}
 use Rattle.definitions.specs.Problem.Node.{Node}
 use Rattle.definitions.specs.Ranges.{Variables, how_many, rank, joined, tops, padded}
 use Rattle.ranges.specs.Sets.{in_set, ClassesAre, rank_in}
 use Rattle.theorems.proofs.Ranges.Adequate.{length_below, get_d_below}
 
--- one more number to count, in the set or not
-pub how_many_next : (f : Variables) (u : ℕ) (b : Bool) → f u ≡ b → how_many f (u + 1) ≡ cond b 1 0 + how_many f u
-how_many_next f u b e = ap (how_many f) (add-one u) ∙ ap (λ (c : Bool). cond c 1 0 + how_many f u) e
+-- the same count, of a range
+pub how_many_counted : (f : Variables) (n : ℕ) → count_by f (range_with_len 0 n) ≡ how_many f n
+how_many_counted f zero = refl
+how_many_counted f (suc n) =
+    ap (λ (m : ℕ). count_by f (range_with_len 0 m)) (sym (add-one n)) ∙ more
+    ∙ ap (λ (m : ℕ). m + cond (f n) 1 0) (how_many_counted f n) ∙ add_comm (how_many f n) (cond (f n) 1 0)
+  where
+    more : count_by f (range_with_len 0 (n + 1)) ≡ count_by f (range_with_len 0 n) + cond (f n) 1 0
+    more =
+        let e = sum_by-map-range_with_len_more (λ u. cond (f u) 1 0) (λ u. u) 0 n n (omega arith) in
+        simp map-id at e
 
 -- how_many looks only below n
 pub how_many_same : (f g : Variables) (n : ℕ) → ((u : ℕ) → u < n → f u ≡ g u) → how_many f n ≡ how_many g n
@@ -56,6 +67,14 @@ module _ (f : ℕ → ℕ) where
     pub take_padded : take n (padded (map f (below n))) ≡ map f (below n)
     take_padded =
         take_at (map f (below n)) (replicate (24 - length (map f (below n))) 0) n (length_below f n)
+
+-- every top is at least 1
+pub tops_positive : (sets : List ℕ) (n : ℕ) (ts : List ℕ) → ts ≡ padded (map (rank_in sets) (below n)) → (v : ℕ)
+    → v < length (take n ts) → 1 ≤ get_or (take n ts) v 0
+tops_positive sets n ts e v h =
+    let q = ap (take n) e ∙ take_padded (rank_in sets) n in
+    let k : v < n = omega (arith, ap length q, length_below (rank_in sets) n) in
+    omega (arith, ap (λ (xs : List ℕ). get_or xs v 0) q ∙ get_d_below (rank_in sets) n v 0 k)
 
 -- the places of variables in their classes are their ranks in the components
 pub ranks_are : (t : List Node) (N : ℕ) (sets : List ℕ) → ClassesAre t N sets → map (rank_in sets) (below N) ≡ tops t N

@@ -9,16 +9,9 @@ use lib.ListN.{get_or}
 use lib.Bits.{bit_or}
 use Rattle.theorems.proofs.Laws.Tests.{or_cases, or_left, or_right, split}
 use Rattle.ranges.specs.Sets.{in_set, InUnion, UnionIs}
-use Rattle.ranges.proofs.SetLaws.{in_none, in_or}
+use Rattle.ranges.proofs.SetLaws.{in_or}
 
 module _ (sets : List ℕ) (these : ℕ) where
-  pub union_none : UnionIs sets these 0 0
-  union_none =
-      record {
-        in_union = λ v e. absurd (false≢true (sym (in_none v) ∙ e));
-        has_union = λ v w. let h = w.1 in absurd (omega arith);
-      }
-
   module _ (n all : ℕ) (u : UnionIs sets these n all) where
     further : (v : ℕ) → InUnion sets these n v → InUnion sets these (n + 1) v
     further v w = let h = w.1 in (w.0, omega arith, w.2, w.3)

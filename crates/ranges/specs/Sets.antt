@@ -7,9 +7,13 @@ use Rattle.definitions.specs.Ranges.{Variables, leaf, joined, how_many}
 abbrev pub in_set : ℕ → Variables
 in_set set v = eqb (set / 2 ^ v % 2) 1
 
+-- a set is of the leaves of node k
+abbrev pub LeafSet : List Node → ℕ → ℕ → Type 0
+LeafSet t k set = (v : ℕ) → in_set set v ≡ leaf t k v
+
 -- these sets are the leaves of the first k nodes of a table
 abbrev pub LeavesAre : List Node → ℕ → List ℕ → Type 0
-LeavesAre t k sets = (i v : ℕ) → i < k → in_set (get_or sets i 0) v ≡ leaf t i v
+LeavesAre t k sets = (i : ℕ) → i < k → LeafSet t i (get_or sets i 0)
 
 -- these sets are the components of the variables below N
 abbrev pub ClassesAre : List Node → ℕ → List ℕ → Type 0

@@ -2,20 +2,16 @@
 use Rattle.std.specs.Prelude.{ℕ, ◌*◌, ◌≤◌, List, length}
 use Rattle.definitions.specs.Problem.Node.{Node, nodes_at}
 use Rattle.theorems.proofs.Tables.Free.{Free}
-use Rattle.elimination.specs.State.{Laid}
-use Rattle.elimination.specs.declared.tally.Tally.{Tally}
+use Rattle.elimination.specs.declared.laid.Laid.{Laid}
 use Rattle.ranges.specs.declared.Shape.{Shape}
 
 -- the nodes that stand at the start of some bytes
 abbrev pub table_in : List ℕ → ℕ → List Node
 table_in bytes nodes = nodes_at bytes 0 nodes
 
--- the counts of a table that is laid, as the code and as the laws of elimination have them
-abbrev pub shape_of : Tally → Shape
-shape_of t = record { nodes = t.nodes; variables = t.functions; truths = t.predicates }
-
-abbrev pub shape_laid : Laid → Shape
-shape_laid l = record { nodes = l.nodes; variables = l.functions; truths = l.predicates }
+-- the counts of a table that is laid
+abbrev pub shape_of : Laid → Shape
+shape_of l = record { nodes = l.nodes; variables = l.functions; truths = l.predicates }
 
 -- they are a well-formed table of so many variables and truth variables
 pub record TableIn (bytes : List ℕ) (s : Shape) : Type 0 where

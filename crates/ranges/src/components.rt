@@ -1,11 +1,10 @@
 // The components: for each variable the set of the variables that the links join it with.
 ghost use Rattle.std.specs.Prelude.{◌<◌, ◌≤◌, ◌≡◌, length};
 ghost use Rattle.ranges.specs.Sets.{LeavesAre, ClassesAre, Apart, UnionIs, Merged, in_set};
-ghost use Rattle.ranges.specs.Table.{TableIn, table_in};
+ghost use Rattle.ranges.specs.Table.{table_in};
 
-use crate::Shape;
-use crate::leaves::only;
-use problem::bytes::two_at;
+use crate::table::FreeTable;
+use problem::ops::Op;
 
 // Variable v is in the set.
 pub fn has(set: u32, v: usize) -> bool
@@ -19,61 +18,52 @@ pub fn has(set: u32, v: usize) -> bool
 fn alone() -> [u32; 24]
     ensures { Apart result }
 {
-    let mut sets = [0u32; 24];
-    let mut v = 0;
-    while v < 24 {
-        sets[v] = only(v);
-        v += 1;
+    let mut sets = [0; 24];
+    for (v, set) in sets.iter_mut().enumerate() {
+        *set = 1 << v;
     }
     sets
 }
 
 // The classes of the variables in a set, all in one.
-fn union(sets: &[u32], these: u32) -> u32
-    requires { length sets.now ≡ 24 }
+fn union(sets: &[u32; 24], these: u32) -> u32
     ensures { UnionIs sets.now these 24 result }
 {
-    let mut all = 0u32;
-    let mut v = 0;
-    while v < 24 {
+    let mut all = 0;
+    for (v, set) in sets.iter().enumerate() {
         if has(these, v) {
-            all = all | sets[v];
+            all |= *set;
         }
-        v += 1;
     }
     all
 }
 
 // The classes of the variables in a set are made one, in place.
-fn merge(sets: &mut [u32], these: u32)
-    requires { length sets.old ≡ 24 }
+fn merge(sets: &mut [u32; 24], these: u32)
     ensures { Merged sets.old these sets.new }
 {
     let all = union(sets, these);
-    let mut v = 0;
-    while v < 24 {
+    for (v, set) in sets.iter_mut().enumerate() {
         if has(all, v) {
-            sets[v] = all;
+            *set = all;
         }
-        v += 1;
     }
 }
 
 // Each equation links every left leaf with every right leaf, so it makes one class of all their classes.
-pub fn classes(table: &[u8], shape: Shape, leaves: &[u32]) -> [u32; 24]
-    requires { TableIn table.now shape × LeavesAre (table_in table.now shape.nodes) shape.nodes leaves.now × (shape.nodes ≤ length leaves.now) }
-    ensures { ClassesAre (table_in table.now shape.nodes) shape.variables result × (length result ≡ 24) }
+pub fn classes(table: FreeTable<'_>, leaves: &[u32]) -> [u32; 24]
+    requires leaves_are { LeavesAre (table_in table.bytes.now table.shape.nodes) table.shape.nodes leaves.now }
+    requires room { table.shape.nodes ≤ length leaves.now }
+    ensures { ClassesAre (table_in table.entry.bytes.now table.entry.shape.nodes) table.entry.shape.variables result × (length result ≡ 24) }
 {
     let mut sets = alone();
-    let mut k = 0;
-    while k < shape.nodes {
-        let at = 8 * k;
-        if table[at] == 2 {
-            let left = two_at(table, at + 2);
-            let right = two_at(table, at + 4);
-            merge(&mut sets, leaves[left] | leaves[right]);
+    for k in 0..table.shape.nodes {
+        let node = table.node(k);
+        if Op::from(node.op) == Op::Equal {
+            let left = leaves[usize::from(node.a)];
+            let right = leaves[usize::from(node.b)];
+            merge(&mut sets, left | right);
         }
-        k += 1;
     }
     sets
 }

@@ -3,25 +3,22 @@
 
 ghost use Rattle.std.specs.Prelude.{◌≤◌, ◌≡◌, length};
 ghost use Rattle.definitions.specs.Operations.Promises.{RangesPromise};
-ghost use Rattle.theorems.proofs.Accepted.{Formed};
-ghost use Rattle.problem.specs.Shape.{Shaped};
-ghost use Rattle.asked.specs.Asking.{ForAsked};
-ghost use Rattle.ranges.specs.Table.{TableIn, shape_of};
-ghost use Rattle.ranges.specs.Spans.{SpansAre, no_ranges};
+ghost use Rattle.ranges.specs.Table.{shape_of};
+ghost use Rattle.ranges.specs.Spans.{SpansAre};
 
 use crate::components::classes;
 use crate::leaves::leaf_sets;
-use crate::sizes::{Product, multiplied, tops};
-use asked::trim::trim;
-use asked::{Asked, ask, counts};
-use definitions::{Checked, Measured, Ranges, Refusal};
+use crate::sizes::{multiplied, tops};
+use crate::table::FreeTable;
+use asked::{ask, counts};
+use definitions::{Ranges, Refusal};
+use elimination::laid::Laid;
 use elimination::lay_table;
-use elimination::tally::Tally;
-use problem::head::Header;
 
 pub mod components;
 pub mod leaves;
 pub mod sizes;
+pub mod table;
 
 // A table's counts.
 #[derive(Clone, Copy)]
@@ -31,75 +28,39 @@ pub struct Shape {
     pub truths: usize,
 }
 
-pub fn ranges(root: usize, problem: &[u8], work: &mut [u8]) -> Ranges
-    ensures { RangesPromise root problem.now work.old result work.new }
+pub fn ranges(root: usize, bytes: &[u8], work: &mut [u8]) -> Result<Ranges, Refusal>
+    ensures { RangesPromise root bytes.now work.old result work.new }
 {
-    match ask(root, problem) {
-        Asked::Refused(refusal) => refused(refusal),
-        Asked::Whole(header) => ranges_asked(problem, header, work),
-        Asked::Part(header) => {
-            let mut room = [0u8; 2088];
-            let part = trim(root, problem, header, &mut room);
-            let end = part.size();
-            ranges_asked(&room[..end], part, work)
-        }
+    let mut room = [0; 2088];
+    let problem = ask(root, bytes, &mut room)?;
+    let truths = counts(&problem)?.predicates;
+    if work.len() < 21056 {
+        return Err(Refusal::ShortWork);
     }
-}
-
-// The ranges of the problem asked, whatever root of whatever problem that is.
-fn ranges_asked(asked: &[u8], header: Header, work: &mut [u8]) -> Ranges
-    requires { Formed asked.now × Shaped asked.now header }
-    ensures { ForAsked asked.now (λ root s. RangesPromise root s work.old result work.new) }
-{
-    match counts(asked, header) {
-        Checked::Refused(refusal) => refused(refusal),
-        Checked::Accepted {
-            functions: _,
-            predicates,
-        } => {
-            if work.len() < 21056 {
-                return refused(Refusal::ShortWork);
-            }
-            let mut images = [0u16; 256];
-            let mut apps = [0u8; 40];
-            let mut owns = [0u16; 40];
-            let all = lay_table(asked, header, work, &mut images, &mut apps, &mut owns);
-            let spans = measure(work, shape_of(all));
-            let tops = spans.tops;
-            let size = spans.product;
-            match size {
-                Product::Big => refused(Refusal::BigProduct),
-                Product::Of(product) => Ranges {
-                    tops,
-                    answer: Measured::Given {
-                        truths: predicates,
-                        product,
-                    },
-                },
-            }
-        }
-    }
-}
-
-// A refusal says nothing else: its tops are zeros.
-fn refused(refusal: Refusal) -> Ranges
-    ensures { result ≡ no_ranges refusal }
-{
-    Ranges {
-        tops: [0; 24],
-        answer: Measured::Refused(refusal),
-    }
+    let all = lay_table(&problem, work);
+    let spans = measure(FreeTable {
+        bytes: work,
+        shape: Shape::from(&all),
+    });
+    let product = spans.product.ok_or(Refusal::BigProduct)?;
+    Ok(Ranges {
+        tops: spans.tops,
+        truths,
+        product,
+    })
 }
 
 // The counts of a table that elimination has laid: a variable for each distinct application of a function, and a truth variable
 // for each of a predicate.
-pub fn shape_of(all: Tally) -> Shape
-    ensures { result ≡ shape_of all }
-{
-    Shape {
-        nodes: all.nodes,
-        variables: all.functions,
-        truths: all.predicates,
+impl From<&Laid> for Shape {
+    ghost from_gives = { λ all shape. shape ≡ shape_of all.now };
+
+    fn from(all: &Laid) -> Self {
+        Shape {
+            nodes: all.nodes,
+            variables: all.functions,
+            truths: all.predicates,
+        }
     }
 }
 
@@ -107,36 +68,32 @@ pub fn shape_of(all: Tally) -> Shape
 #[derive(Clone, Copy)]
 pub struct Spans {
     pub tops: [u8; 24],
-    pub product: Product,
+    pub product: Option<u64>,
 }
 
 // A small table is measured in a small array: to clear the large one takes longer than most small jobs.
-pub fn measure(table: &[u8], shape: Shape) -> Spans
-    requires { TableIn table.now shape }
-    ensures { SpansAre table.now shape result }
+pub fn measure(table: FreeTable<'_>) -> Spans
+    ensures { SpansAre table.entry.bytes.now table.entry.shape result }
 {
-    if shape.nodes <= 86 {
-        let mut sets = [0u32; 86];
-        return measure_in(table, shape, &mut sets);
+    match table.shape.nodes {
+        0..=86 => measure_with::<86>(table),
+        87..=512 => measure_with::<512>(table),
+        _ => measure_with::<2632>(table),
     }
-    if shape.nodes <= 512 {
-        let mut sets = [0u32; 512];
-        return measure_in(table, shape, &mut sets);
-    }
-    let mut sets = [0u32; 2632];
-    measure_in(table, shape, &mut sets)
 }
 
-// The tops and the product, by way of an array that has room for the leaves of the table.
-fn measure_in(table: &[u8], shape: Shape, sets: &mut [u32]) -> Spans
-    requires { TableIn table.now shape × (shape.nodes ≤ length sets.old) }
-    ensures { SpansAre table.now shape result }
+// The tops and the product, by way of an array that has room for the leaves of N nodes.
+fn measure_with<const N: usize>(table: FreeTable<'_>) -> Spans
+    requires room { table.shape.nodes ≤ N }
+    requires small { N ≤ 2632 }
+    ensures { SpansAre table.entry.bytes.now table.entry.shape result }
 {
-    leaf_sets(table, shape, sets);
-    let joined = classes(table, shape, sets);
-    let tops = tops(joined, shape.variables);
+    let mut sets = [0; N];
+    leaf_sets(table, &mut sets);
+    let joined = classes(table, &sets);
+    let tops = tops(joined, table.shape.variables);
     Spans {
         tops,
-        product: multiplied(tops, shape.variables, shape.truths),
+        product: multiplied(&tops[..table.shape.variables], table.shape.truths),
     }
 }

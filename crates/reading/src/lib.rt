@@ -11,6 +11,7 @@ pub fn fill<R: Read>(input: &mut R, room: &mut [u8]) -> usize
     ensures { result ≤ length room.new }
 {
     let mut got = 0;
+    // No `for`: a read brings as many bytes as it likes.
     while got < room.len() {
         let Ok(more) = input.read(&mut room[got..]) else {
             return got;

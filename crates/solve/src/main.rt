@@ -4,14 +4,12 @@
 // that fails counts as the end of the text.
 #![tactic(auto)]
 
-ghost use Rattle.std.specs.Prelude.{◌≤◌, length};
-
 use decision::decide;
-use definitions::{Decision, Reading};
-use problem::bytes::wide;
+use definitions::Verdict;
+use lines::line::Line;
 use problem::head::last_node;
 use reading::fill;
-use solve_lines::budget::{Budget, budget_in};
+use solve_lines::budget::budget_in;
 use solve_lines::errors::error_line;
 use solve_lines::names::name_at;
 use solve_lines::rows::{Row, byte_at, row_at, row_end, row_start};
@@ -22,26 +20,18 @@ use std::rt::Files;
 use std::{fs, io, str};
 use text::read;
 
-// Writes the first bytes of a line.
-fn write_line(rt: &impl Print, line: &[u8], end: usize) -> io::Result<()>
-    requires { end ≤ length line.now }
-{
-    rt.write_all(&line[..end])
+fn write_line(rt: &impl Print, line: &Line) -> io::Result<()> {
+    rt.write_all(line.as_bytes())
 }
 
 // The line of a row: the name comes straight from the text.
 fn write_row(rt: &impl Print, text: &[u8], problem: &[u8], row: Row) -> io::Result<()> {
-    let mut line = [0u8; 256];
-    let symbol = wide(row.symbol);
+    let symbol = usize::from(row.symbol);
     let name = name_at(text, symbol);
-    let from = name.from;
-    let to = name.to;
     let byte = byte_at(problem, 8 + symbol);
-    let start = row_start(&mut line, name.barred);
-    write_line(rt, &line, start)?;
-    rt.write_all(&text[from..to])?;
-    let end = row_end(&mut line, name.barred, byte, row);
-    write_line(rt, &line, end)
+    write_line(rt, &row_start(name.barred))?;
+    rt.write_all(name.bytes)?;
+    write_line(rt, &row_end(name.barred, byte, row))
 }
 
 // The tables that a witness lists.
@@ -56,16 +46,9 @@ fn write_tables(rt: &impl Print, text: &[u8], problem: &[u8], witness: &[u8]) ->
 fn answer(rt: &impl Print, budget: u64, text: &[u8], problem: &[u8]) -> io::Result<()> {
     let mut work = [0u8; 21056];
     let mut witness = [0u8; 206];
-    let mut line = [0u8; 256];
     let answer = decide(budget, last_node(problem), problem, &mut work, &mut witness);
-    let end = answer_lines(&mut line, text, answer);
-    write_line(rt, &line, end)?;
-    if let Decision::Falsified {
-        tried: _,
-        product: _,
-        written: _,
-    } = answer
-    {
+    write_line(rt, &answer_lines(text, answer))?;
+    if let Ok(Verdict::Falsified { .. }) = answer.map(|decision| decision.verdict) {
         write_tables(rt, text, problem, &witness)?;
     }
     Ok(())
@@ -75,25 +58,9 @@ fn answer(rt: &impl Print, budget: u64, text: &[u8], problem: &[u8]) -> io::Resu
 fn solve_text(rt: &impl Print, budget: u64, text: &[u8]) -> io::Result<()> {
     let mut problem = [0u8; 2088];
     match read(text, &mut problem) {
-        Reading::Problem { written } => answer(rt, budget, text, &problem[..written]),
-        Reading::Refused(refusal) => {
-            let mut line = [0u8; 256];
-            let end = error_line(&mut line, text, refusal);
-            write_line(rt, &line, end)
-        }
+        Ok(written) => answer(rt, budget, text, &problem[..written]),
+        Err(refusal) => write_line(rt, &error_line(text, refusal)),
     }
-}
-
-fn write_too_long(rt: &impl Print) -> io::Result<()> {
-    let mut line = [0u8; 256];
-    let end = too_long_line(&mut line);
-    write_line(rt, &line, end)
-}
-
-fn write_bad_budget(rt: &impl Print) -> io::Result<()> {
-    let mut line = [0u8; 256];
-    let end = budget_line(&mut line);
-    write_line(rt, &line, end)
 }
 
 // Room for 1 MiB, and for one byte more, which tells a longer text. A function of its own, so that no proof writes it out.
@@ -106,17 +73,17 @@ fn solve_from<R: Read>(rt: &impl Print, budget: u64, input: &mut R) -> io::Resul
     let mut room = large_room();
     let got = fill(input, &mut room);
     if got == 1048577 {
-        return write_too_long(rt);
+        return write_line(rt, &too_long_line());
     }
     solve_text(rt, budget, &room[..got])
 }
 
 // The second argument.
-fn budget(rt: &impl Env) -> Budget {
+fn budget(rt: &impl Env) -> Option<u64> {
     let mut argument = [0u8; 32];
     match rt.arg(2, &mut argument) {
         Ok(got) => budget_in(&argument[..got]),
-        Err(FillError::TooLong) => Budget::Wrong,
+        Err(FillError::TooLong) => None,
         Err(FillError::NotPresent) => budget_in(&[]),
     }
 }
@@ -134,8 +101,8 @@ fn solve_file(rt: &(impl Files + Print + Eprint), budget: u64, path: &[u8]) -> i
 
 // The file that the first argument names, or standard input.
 fn main(rt: HostRuntime) -> io::Result<()> {
-    let Budget::Places(places) = budget(&rt) else {
-        return write_bad_budget(&rt);
+    let Some(places) = budget(&rt) else {
+        return write_line(&rt, &budget_line());
     };
     let mut path = [0u8; 4096];
     match rt.arg(1, &mut path) {

@@ -1,20 +1,19 @@
 -- The digits of a budget are read one by one, the high one first. Assumes nothing.
-use mathlib.Core.Path.{◌≡◌, refl, sym, ap, ◌∙◌, subst}
-use Prim.Native.Nat.{ℕ, ◌+◌, ◌*◌, ◌-◌, ◌^◌, ◌≤◌, ◌<◌}
+use mathlib.Core.Path.{◌≡◌, refl, sym, ap, ◌∙◌}
+use Prim.Native.Nat.{ℕ, ◌+◌, ◌^◌, ◌≤◌, ◌<◌}
 use native.Mathlib.Numerals.{add-one}
-use native.Mathlib.Nat.{pow-succ', pow-le-pow_right}
+use native.Mathlib.Nat.{pow-le-pow_right}
 use native.Mathlib.Omega.{arith}
 use mathlib.Core.Bool.{Bool, true, false, ◌&&◌}
 use mathlib.Core.List.{List, [], ◌∷◌}
 use mathlib.Core.Option.{Option, none, some}
 use lib.ListN.{length, get_or, drop, drop_of_length-le}
 use lib.Seq.{drop-cons}
-use lib.Dec.{leb, ltb}
-use borrow.Author.Tests.{lt-ltb, le-ltb, leb-true}
+use lib.Dec.{ltb}
+use borrow.Author.Tests.{lt-ltb, le-ltb}
 use Rattle.definitions.specs.Lists.{all}
 use Rattle.definitions.specs.Text.Tokens.{digit}
 use Rattle.definitions.specs.Solve.{number_from, budget_in}
-use Rattle.theorems.proofs.Laws.Tests.{and_left, and_right}
 
 abbrev taken : List ℕ → Bool → Option ℕ
 taken ds b = elim b [ true ↦ some (number_from 0 ds) | false ↦ none ]
@@ -39,12 +38,6 @@ pub record Digits (ds : List ℕ) (i n : ℕ) : Type 0 where
   pub so_far : number_from n (drop i ds) ≡ number_from 0 ds
   pub right : all digit (drop i ds) ≡ all digit ds
   pub small : n < 10 ^ i
-
-pub digits_none : (ds : List ℕ) → Digits ds 0 0
-digits_none ds = record { inside = omega arith; so_far = refl; right = refl; small = omega arith }
-
-pub digit_range : (b : ℕ) → digit b ≡ true → (48 ≤ b) × (b ≤ 57)
-digit_range b e = (leb-true 48 b (and_left (leb 48 b) (leb b 57) e), leb-true b 57 (and_right (leb 48 b) (leb b 57) e))
 
 module _ (ds : List ℕ) (i n : ℕ) (h : length ds < 20) (d : Digits ds i n) where
   pub digits_fit : i < length ds → n < 1000000000000000000
@@ -71,20 +64,6 @@ module _ (ds : List ℕ) (i n : ℕ) (h : length ds < 20) (d : Digits ds i n) wh
 
     pub digits_wrong : digit b ≡ false → none ≡ budget_in ds
     digits_wrong e = sym (by_short (λ z. omega arith) (all_by e))
-
-    pub digits_more : digit b ≡ true → Digits ds (i + 1) (10 * n + (b - 48))
-    digits_more e =
-        let range = digit_range b e in
-        let low = range.0 in
-        let high = range.1 in
-        let s = d.small in
-        let p = pow-succ' 10 i in
-        record {
-          inside = omega arith;
-          so_far = sym (ap (number_from n) split) ∙ d.so_far;
-          right = sym (all_by e);
-          small = subst (λ (k : ℕ). 10 * n + (b - 48) < 10 ^ k) (sym (add-one i)) (omega arith);
-        }
 
   pub digits_all : (length ds ≡ 0 → ⊥) → length ds ≤ i → some n ≡ budget_in ds
   digits_all z l =

@@ -1,6 +1,5 @@
-pub mod Budgets
-pub mod Counting
-pub mod Meanings
-pub mod Passing
+mod Budgets
+mod Counting
+mod Passing
 pub mod Declared
 pub mod Pieces

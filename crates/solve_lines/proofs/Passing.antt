@@ -4,26 +4,20 @@ use Prim.Native.Nat.{ℕ, ◌+◌, ◌≤◌, ◌<◌}
 use native.Mathlib.Omega.{arith}
 use mathlib.Core.Bool.{Bool, true, false}
 use mathlib.Core.List.{List, [], ◌∷◌, ◌++◌}
-use mathlib.Core.Option.{none, some}
+use mathlib.Core.Option.{some}
 use lib.ListN.{length, get_or, take, drop, length-drop, get_or-eq_default}
 use lib.Seq.{get_or-drop, drop-drop}
-use lib.Dec.{eqb}
-use types.Run.{OneOf}
-use Rattle.definitions.specs.Bytes.{byte_at}
 use Rattle.definitions.specs.Text.Tokens.{Placed, wrong, tokens_of, same_token}
 use Rattle.definitions.specs.Text.Tokens as tokens
-use Rattle.definitions.specs.Solve.{names_in, name_at, is_barred}
+use Rattle.definitions.specs.Solve.{names_in, name_at}
 use Rattle.theorems.proofs.Text.Taken.Kept.Invariant.{DECLARE}
-use Rattle.terms.specs.Lexing.{name_of, lexeme_read, tokens_at, led, NameWithin, LexemeWithin, Lexed}
+use Rattle.terms.specs.Lexing.{name_of, lexeme_read, tokens_at, led, LexemeWithin, Lexed}
 use Rattle.terms.specs.Reading.{is_token}
-use Rattle.terms.specs.Declarations.{name_in}
-use Rattle.terms.specs.declared.tokens.Name.{Name}
 use Rattle.terms.specs.declared.tokens.Lexeme.{Lexeme}
 use Rattle.terms.specs.declared.tokens.Token.{Token}
-use Rattle.terms.proofs.LexemeLaws.{tag_of}
-use Rattle.terms.proofs.DeclarationLaws.{some_token, same_swap, name_inside}
+use Rattle.terms.proofs.DeclarationLaws.{same_swap}
 use Rattle.terms.proofs.Streams.{no_tokens}
-use Rattle.solve_lines.specs.Read.{first_at, WrittenAs}
+use Rattle.solve_lines.specs.Read.{first_at}
 
 abbrev nobody : List ℕ → Placed
 nobody text = record { token = wrong; place = length text }
@@ -31,6 +25,16 @@ nobody text = record { token = wrong; place = length text }
 no_token_left : (text : List ℕ) → tokens_at text (length text) ≡ []
 unfolding tokens_at
 no_token_left text = no_tokens (length text) (length text) (drop (length text) text) (omega (arith, length-drop (length text) text))
+
+-- a lexeme that is not the end is a token
+some_token : (text : List ℕ) (x : Lexeme) → (x ≡ Lexeme.End → ⊥) → (y : tokens.Token) × (lexeme_read text x ≡ some y)
+some_token text Lexeme.End o = absurd (o refl)
+some_token text Lexeme.Opening o = (tokens.opening, refl)
+some_token text Lexeme.Closing o = (tokens.closing, refl)
+some_token text Lexeme.Nought o = (tokens.nought, refl)
+some_token text Lexeme.Wrong o = (wrong, refl)
+some_token text (Lexeme.Symbol n) o = (tokens.symbol (name_of text n), refl)
+some_token text (Lexeme.Word n) o = (tokens.word (name_of text n), refl)
 
 -- a declaration's name, and the names after it
 first_of : (ps : List Placed) (d : Placed) → get_or (take 1 ps ++ names_in ps) 0 d ≡ get_or ps 0 d
@@ -77,7 +81,7 @@ module _ (text : List ℕ) (k at number : ℕ) (s : Passed text k at number) (t 
         omega arith,
       )
 
-  module _ (o : OneOf (1 ∷ 2 ∷ 3 ∷ 4 ∷ 5 ∷ 6 ∷ []) (tag_of t.lexeme)) where
+  module _ (o : t.lexeme ≡ Lexeme.End → ⊥) where
     abbrev here : Placed
     here = record { token = (some_token text t.lexeme o).0; place = t.place }
 
@@ -89,9 +93,6 @@ module _ (text : List ℕ) (k at number : ℕ) (s : Passed text k at number) (t 
         sym (names_by here ps same)
         ∙ ap names_in (sym (l.tokens_are ∙ ap (led text t.place t.next) there.1))
         ∙ s.left
-
-    pub passed_other : is_token DECLARE (lexeme_read text t.lexeme) ≡ false → Passed text k t.next number
-    passed_other e = record { inside = l.inside; few = s.few; left = left_by e }
 
     module _ (e : is_token DECLARE (lexeme_read text t.lexeme) ≡ true) where
       pub passed_here : number ≡ k → first_at text t.next ≡ name_at text k
@@ -112,42 +113,3 @@ module _ (text : List ℕ) (k at number : ℕ) (s : Passed text k at number) (t 
             few = omega arith;
             left = sym (rest_of ps) ∙ ap (drop 1) (left_by e) ∙ drop-drop 1 number names;
           }
-
--- the first token from an offset on, by the lexeme there
-abbrev token_in : List ℕ → Lexeme → tokens.Token
-token_in text x = elim (lexeme_read text x) [ none ↦ wrong | some y ↦ y ]
-
-token_name : (text : List ℕ) (x : Lexeme) → name_of text (name_in x) ≡ tokens.name_of (token_in text x)
-token_name text Lexeme.End = refl
-token_name text Lexeme.Opening = refl
-token_name text Lexeme.Closing = refl
-token_name text Lexeme.Nought = refl
-token_name text Lexeme.Wrong = refl
-token_name text (Lexeme.Symbol n) = refl
-token_name text (Lexeme.Word n) = refl
-
-first_is : (text : List ℕ) (at : ℕ) (t : Token) → Lexed text at t → record { token = token_in text t.lexeme; place = t.place } ≡ first_at text at
-first_is text at t l = go t.lexeme l.fits ∙ sym (ap (λ (xs : List Placed). get_or xs 0 (nobody text)) l.tokens_are)
-  where
-    go : (x : Lexeme) → LexemeWithin text at t x
-        → record { token = token_in text x; place = t.place } ≡ get_or (led text t.place t.next (lexeme_read text x)) 0 (nobody text)
-    go Lexeme.End w = ap (λ (n : ℕ). record { token = wrong; place = n }) w
-    go Lexeme.Opening w = refl
-    go Lexeme.Closing w = refl
-    go Lexeme.Nought w = refl
-    go Lexeme.Wrong w = refl
-    go (Lexeme.Symbol n) w = refl
-    go (Lexeme.Word n) w = refl
-
--- a name as it is written, by what the lexer says
-pub written_first : (text : List ℕ) (at : ℕ) (t : Token) → Lexed text at t → (name : Name) → name ≡ name_in t.lexeme → (b : ℕ) → b ≡ byte_at text t.place
-    → WrittenAs text (first_at text at) (record { from = name.from; to = name.to; barred = eqb b 124 })
-written_first text at t l name e b f =
-    let fits = subst (NameWithin text) (sym e) (name_inside text at t l) in
-    let first = first_is text at t l in
-    record {
-      onward = fits.0;
-      inside = fits.1;
-      name = ap (name_of text) e ∙ token_name text t.lexeme ∙ ap (λ (p : Placed). tokens.name_of p.token) first;
-      bars = ap (λ (k : ℕ). eqb k 124) f ∙ ap (is_barred text) first;
-    }

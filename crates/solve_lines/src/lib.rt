@@ -1,16 +1,15 @@
-// What the program solve prints (02, E1, 'The host and the program'): each piece is laid in a lent buffer and returned as its
-// length; a declared name is given by its offsets, since it may be long. That the pieces in this order are the definition's
-// output is shown in proofs/Pieces.
+// What the program solve prints (02, E1, 'The host and the program'), line by line. A declared name is given by itself, since it
+// may be long. That the pieces in this order are the definition's output is shown in proofs/Pieces.
 #![tactic(auto)]
 
-ghost use Rattle.std.specs.Prelude.{◌≡◌, ◌≤◌, length, take};
+ghost use Rattle.std.specs.Prelude.{◌≡◌, ◌≤◌, length};
 ghost use Rattle.definitions.specs.Solve.{too_long, bad_budget, answer_lines, verdict_lines};
 ghost use Rattle.definitions.specs.Operations.Answers.{isStopped};
-ghost use Rattle.definitions.specs.Operations.Readings.{decision_read};
+ghost use Rattle.definitions.specs.Operations.Readings.{verdict_read, decision_read};
 
 use crate::errors::error_line;
-use definitions::Decision;
-use lines::put::{put, put_number};
+use definitions::{Decision, Refusal, Verdict};
+use lines::line::Line;
 
 pub mod budget;
 pub mod errors;
@@ -19,52 +18,58 @@ pub mod places;
 pub mod rows;
 
 // The verdict's line, with the comment line of unknown; or the error line of a refusal.
-pub fn answer_lines(line: &mut [u8], text: &[u8], answer: Decision) -> usize
-    requires { 256 ≤ length line.old }
-    ensures { (take result line.new ≡ answer_lines text.now (decision_read answer)) × (result ≤ length line.new) }
+#[tactic(auto, unfolding(definitions::specs::Solve::answer_lines))]
+pub fn answer_lines(text: &[u8], answer: Result<Decision, Refusal>) -> Line
+    ensures { result ≡ answer_lines text.now (decision_read answer) }
 {
     match answer {
-        Decision::Valid {
-            tried: _,
-            product: _,
-        } => put(line, 0, b"unsat\n"),
-        Decision::Falsified {
-            tried: _,
-            product: _,
-            written: _,
-        } => put(line, 0, b"sat\n"),
-        Decision::Stopped { tried, product } => unknown_lines(line, tried, product),
-        Decision::Refused(refusal) => error_line(line, text, refusal),
+        Ok(decision) => verdict_lines(decision),
+        Err(refusal) => error_line(text, refusal),
+    }
+}
+
+// The verdict's line.
+fn verdict_lines(decision: Decision) -> Line
+    ensures { result ≡ verdict_lines (verdict_read decision.verdict) decision.tried decision.product }
+{
+    match decision.verdict {
+        Verdict::Valid => fixed_line(b"unsat\n"),
+        Verdict::Falsified { .. } => fixed_line(b"sat\n"),
+        Verdict::Stopped => unknown_lines(decision.tried, decision.product),
     }
 }
 
 // How many places were tried, and of how many.
-fn unknown_lines(line: &mut [u8], tried: u64, product: u64) -> usize
-    requires { 256 ≤ length line.old }
-    ensures { (take result line.new ≡ verdict_lines isStopped tried product) × (result ≤ length line.new) }
+fn unknown_lines(tried: u64, product: u64) -> Line
+    ensures { result ≡ verdict_lines isStopped tried product }
 {
-    let at = put(line, 0, b"unknown\n; tried");
-    let at = put_number(line, at, tried);
-    let at = put(line, at, b" of");
-    let at = put_number(line, at, product);
-    put(line, at, b"\n")
+    let mut line = Line::new();
+    line.put(b"unknown\n; tried");
+    line.put_number(tried);
+    line.put(b" of");
+    line.put_number(product);
+    line.put(b"\n");
+    line
 }
 
 // The error lines of the program itself.
-pub fn too_long_line(line: &mut [u8]) -> usize
-    requires { 256 ≤ length line.old }
-    ensures { (take result line.new ≡ too_long) × (result ≤ length line.new) }
+pub fn too_long_line() -> Line
+    ensures { result ≡ too_long }
 {
-    put(line, 0, b"(error \"the text is over 1048576 bytes\")\n")
+    fixed_line(b"(error \"the text is over 1048576 bytes\")\n")
 }
 
-pub fn budget_line(line: &mut [u8]) -> usize
-    requires { 256 ≤ length line.old }
-    ensures { (take result line.new ≡ bad_budget) × (result ≤ length line.new) }
+pub fn budget_line() -> Line
+    ensures { result ≡ bad_budget }
 {
-    put(
-        line,
-        0,
-        b"(error \"the budget is not a number of at most 19 digits\")\n",
-    )
+    fixed_line(b"(error \"the budget is not a number of at most 19 digits\")\n")
+}
+
+fn fixed_line(bytes: &[u8]) -> Line
+    requires { length bytes.now ≤ 256 }
+    ensures { result ≡ bytes.now }
+{
+    let mut line = Line::new();
+    line.put(bytes);
+    line
 }

@@ -7,27 +7,22 @@ use crate::rows::byte_at;
 use terms::declarations::{is_declaring, name_of};
 use terms::tokens::{Lexeme, next};
 
-// A name's bytes by their offsets in the text, bars left out, and whether it is written in bars.
+// A name's bytes, bars left out, and whether it is written in bars.
 #[derive(Clone, Copy)]
-pub struct Written {
-    pub from: usize,
-    pub to: usize,
+pub struct Written<'a> {
+    pub bytes: &'a [u8],
     pub barred: bool,
 }
 
 // The name of the first token from an offset on.
-fn first_name(text: &[u8], at: usize) -> Written
+fn first_name(text: &[u8], at: usize) -> Written<'_>
     requires { at ≤ length text.now }
     ensures { WrittenAs text.now (first_at text.now at) result }
 {
     let token = next(text, at);
-    let lexeme = token.lexeme;
-    let name = name_of(lexeme);
-    let barred = byte_at(text, token.place) == b'|';
     Written {
-        from: name.from,
-        to: name.to,
-        barred,
+        bytes: name_of(token.lexeme).of(text),
+        barred: byte_at(text, token.place) == b'|',
     }
 }
 
@@ -37,14 +32,14 @@ fn behind_declaring(text: &[u8], k: usize) -> usize
 {
     let mut at = 0;
     let mut number = 0;
+    // No `for`: where the next token is looked for is known once this one is read.
     loop {
         let token = next(text, at);
-        let lexeme = token.lexeme;
-        if let Lexeme::End = lexeme {
+        if let Lexeme::End = token.lexeme {
             return token.place;
         }
         at = token.next;
-        if !is_declaring(text, lexeme) {
+        if !is_declaring(text, token.lexeme) {
             continue;
         }
         if number == k {
@@ -55,7 +50,7 @@ fn behind_declaring(text: &[u8], k: usize) -> usize
 }
 
 // The name of symbol k, an empty one past the last.
-pub fn name_at(text: &[u8], k: usize) -> Written
+pub fn name_at(text: &[u8], k: usize) -> Written<'_>
     ensures { WrittenAs text.now (name_at text.now k) result }
 {
     let at = behind_declaring(text, k);

@@ -15,15 +15,14 @@ pub fn position_of(text: &[u8], place: usize) -> Position
 {
     let mut line = 1;
     let mut column = 1;
-    let mut at = 0;
-    while at < place && at < text.len() {
-        if text[at] == b'\n' {
+    let before = &text[..place.min(text.len())];
+    for byte in before {
+        if *byte == b'\n' {
             line += 1;
             column = 1;
         } else {
             column += 1;
         }
-        at += 1;
     }
     Position { line, column }
 }

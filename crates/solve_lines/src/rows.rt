@@ -1,14 +1,12 @@
 // The line of a witness's row, before and after the symbol's name.
-ghost use Rattle.std.specs.Prelude.{◌≡◌, ◌+◌, ◌*◌, ◌≤◌, length, take, eqb};
+ghost use Rattle.std.specs.Prelude.{◌≡◌, ◌+◌, ◌*◌, ◌≤◌, ◌++◌, length, eqb};
 ghost use Rattle.definitions.specs.Bytes.{byte_at};
 ghost use Rattle.definitions.specs.Problem.Ops.{is_function};
 ghost use Rattle.definitions.specs.Witness.{row_at};
 ghost use Rattle.definitions.specs.Solve.{bar, another, arguments, truth, value, row_start, row_end};
-ghost use Rattle.lines.specs.Wrote.{Wrote};
 ghost use Rattle.solve_lines.specs.Read.{row_read};
 
-use lines::put::{put, put_digits, put_number};
-use problem::bytes::wide;
+use lines::line::Line;
 
 // A symbol, three argument values, and the value there.
 #[derive(Clone, Copy)]
@@ -24,14 +22,14 @@ pub struct Row {
 pub fn byte_at(s: &[u8], i: usize) -> u8
     ensures { result ≡ byte_at s.now i }
 {
-    if i < s.len() { s[i] } else { 0 }
+    s.get(i).copied().unwrap_or(0)
 }
 
 // Row k of a witness.
 pub fn row_at(witness: &[u8], k: u8) -> Row
     ensures { row_read result ≡ row_at witness.now (6 + 5 * k) }
 {
-    let at = 6 + 5 * wide(k);
+    let at = 6 + 5 * usize::from(k);
     Row {
         symbol: byte_at(witness, at),
         x: byte_at(witness, at + 1),
@@ -41,78 +39,75 @@ pub fn row_at(witness: &[u8], k: u8) -> Row
     }
 }
 
-fn put_bar(line: &mut [u8], at: usize, barred: bool) -> usize
-    requires { at + 1 ≤ length line.old }
-    ensures { Wrote line.old at (bar barred) line.new result × (result ≤ at + 1) }
+fn put_bar(line: &mut Line, barred: bool)
+    requires { length line.old + 1 ≤ 256 }
+    ensures bar { line.new ≡ line.old ++ bar barred }
+    ensures short { length line.new ≤ length line.old + 1 }
 {
     if barred {
-        return put(line, at, b"|");
+        line.put(b"|");
     }
-    put(line, at, b"")
 }
 
 // One more argument, if there is one.
-fn put_another(line: &mut [u8], at: usize, more: bool, v: u8) -> usize
-    requires { at + 22 ≤ length line.old }
-    ensures { Wrote line.old at (another more v) line.new result × (result ≤ at + 22) }
+fn put_another(line: &mut Line, more: bool, v: u8)
+    requires { length line.old + 22 ≤ 256 }
+    ensures another { line.new ≡ line.old ++ another more v }
+    ensures short { length line.new ≤ length line.old + 22 }
 {
     if more {
-        let at = put(line, at, b",");
-        return put_number(line, at, v as u64);
+        line.put(b",");
+        line.put_number(u64::from(v));
     }
-    put(line, at, b"")
 }
 
-fn put_arguments(line: &mut [u8], at: usize, arity: u8, row: Row) -> usize
-    requires { at + 66 ≤ length line.old }
-    ensures { Wrote line.old at (arguments arity (row_read row)) line.new result × (result ≤ at + 66) }
+fn put_arguments(line: &mut Line, arity: u8, row: Row)
+    requires { length line.old + 66 ≤ 256 }
+    ensures arguments { line.new ≡ line.old ++ arguments arity (row_read row) }
+    ensures short { length line.new ≤ length line.old + 66 }
 {
     if arity == 0 {
-        return put(line, at, b"");
+        return;
     }
-    let at = put(line, at, b"(");
-    let at = put_digits(line, at, row.x as u64);
-    let at = put_another(line, at, 1 < arity, row.y);
-    let at = put_another(line, at, 2 < arity, row.z);
-    put(line, at, b")")
-}
-
-fn put_truth(line: &mut [u8], at: usize, v: u8) -> usize
-    requires { at + 5 ≤ length line.old }
-    ensures { Wrote line.old at (truth (eqb v 1)) line.new result × (result ≤ at + 5) }
-{
-    if v == 1 {
-        return put(line, at, b"true");
-    }
-    put(line, at, b"false")
+    line.put(b"(");
+    line.put_digits(u64::from(row.x));
+    put_another(line, 1 < arity, row.y);
+    put_another(line, 2 < arity, row.z);
+    line.put(b")");
 }
 
 // A function's value, or a predicate's, by the symbol's byte.
-fn put_value(line: &mut [u8], at: usize, byte: u8, v: u8) -> usize
-    requires { at + 20 ≤ length line.old }
-    ensures { Wrote line.old at (value (is_function byte) v) line.new result × (result ≤ at + 20) }
+fn put_value(line: &mut Line, byte: u8, v: u8)
+    requires { length line.old + 20 ≤ 256 }
+    ensures value { line.new ≡ line.old ++ value (is_function byte) v }
+    ensures short { length line.new ≤ length line.old + 20 }
 {
     if byte < 4 {
-        return put_digits(line, at, v as u64);
+        line.put_digits(u64::from(v));
+    } else if v == 1 {
+        line.put(b"true");
+    } else {
+        line.put(b"false");
     }
-    put_truth(line, at, v)
 }
 
-pub fn row_start(line: &mut [u8], barred: bool) -> usize
-    requires { 256 ≤ length line.old }
-    ensures { (take result line.new ≡ row_start barred) × (result ≤ length line.new) }
+pub fn row_start(barred: bool) -> Line
+    ensures { result ≡ row_start barred }
 {
-    let at = put(line, 0, b"; ");
-    put_bar(line, at, barred)
+    let mut line = Line::new();
+    line.put(b"; ");
+    put_bar(&mut line, barred);
+    line
 }
 
-pub fn row_end(line: &mut [u8], barred: bool, byte: u8, row: Row) -> usize
-    requires { 256 ≤ length line.old }
-    ensures { (take result line.new ≡ row_end barred byte (row_read row)) × (result ≤ length line.new) }
+pub fn row_end(barred: bool, byte: u8, row: Row) -> Line
+    ensures { result ≡ row_end barred byte (row_read row) }
 {
-    let at = put_bar(line, 0, barred);
-    let at = put_arguments(line, at, byte % 16, row);
-    let at = put(line, at, b" = ");
-    let at = put_value(line, at, byte, row.value);
-    put(line, at, b"\n")
+    let mut line = Line::new();
+    put_bar(&mut line, barred);
+    put_arguments(&mut line, byte % 16, row);
+    line.put(b" = ");
+    put_value(&mut line, byte, row.value);
+    line.put(b"\n");
+    line
 }

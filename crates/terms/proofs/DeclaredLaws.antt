@@ -3,7 +3,7 @@
 use mathlib.Core.Path.{◌≡◌, refl, sym, ap, ap₂, ◌∙◌}
 use Prim.Native.Nat.{ℕ, zero, suc}
 use mathlib.Core.Bool.{Bool, true, false, not, ◌||◌, or-false}
-use mathlib.Core.List.{List, [], ◌∷◌, ◌++◌, append_assoc, append-nil}
+use mathlib.Core.List.{List, [], ◌∷◌, ◌++◌, append_assoc}
 use lib.ListN.{replicate}
 use borrow.Author.Tests.{not-true}
 use Rattle.definitions.specs.Lists.{snoc}
@@ -28,9 +28,6 @@ module _ (sn : List ℕ) (t : Token) (ts : List Token) where
 
   pub declared_skip : same_token t DECLARE ≡ false → declared_in sn (t ∷ ts) ≡ declared_in sn ts
   declared_skip e = by e
-
-  pub declared_here_lem : same_token t DECLARE ≡ true → declared_in sn (t ∷ ts) ≡ declared_here sn ts ∷ declared_in sn ts
-  declared_here_lem e = by e
 
 -- no token of a term, and none of a sort, is declare-fun
 head_other : (sig : List Symbol) (h : Head) → same_token (head_token sig h) DECLARE ≡ false
@@ -117,6 +114,3 @@ module _ (sn : List ℕ) where
     -- what is read before a command declares the symbols of the commands before it, whatever comes then
     pub declared_on : (cs : List Command) (ts : List Token) → declared_in sn (base sn cs ++ ts) ≡ symbols_in cs ++ declared_in sn ts
     declared_on cs ts = by_commands [] cs ts
-
-    pub declared_in_lem : (cs : List Command) → declared_in sn (base sn cs) ≡ symbols_in cs
-    declared_in_lem cs = ap (declared_in sn) (sym (append-nil (base sn cs))) ∙ declared_on cs [] ∙ append-nil (symbols_in cs)

@@ -10,15 +10,20 @@ use mathlib.Core.Logic.{◌⊎◌, inl, inr}
 use mathlib.Core.Option.{Option, none, some}
 use lib.Dec.{ltb}
 use borrow.Author.Tests.{lt-ltb, le-ltb}
+use Rattle.std.specs.Prelude.{Ok, Err}
 use Rattle.definitions.specs.Problem.Ops.{Sort, term, formula}
 use Rattle.definitions.specs.Text.Tokens.{closing, symbol, same_token}
 use Rattle.definitions.specs.Text.Tokens as tokens
 use Rattle.definitions.specs.Text.Grammar.{Command, BOOL}
+use Rattle.definitions.specs.Text.Nodes.{byte_of}
 use Rattle.definitions.specs.Text.Reader.{State, gave, unless_not, step}
 use Rattle.theorems.proofs.Text.Taken.Runs.{token_same}
 use Rattle.terms.specs.Lexing.{lexeme_read, Lexed}
-use Rattle.terms.specs.Reading.{Reached, WrongAt, is_token}
-use Rattle.terms.specs.Ranks.{in_taking, in_giving}
+use Rattle.terms.specs.Reading.{Reached, WrongAt, is_token, Exactly}
+use Rattle.terms.specs.Ranks.{PartIs, in_taking, in_giving}
+use Rattle.terms.specs.declared.exact.WrongToken.{WrongToken}
+use Rattle.terms.specs.declared.ranks.Part.{Part}
+use Rattle.terms.specs.declared.tokens.Lexeme.{Lexeme}
 use Rattle.terms.specs.declared.tokens.Token.{Token}
 use Rattle.terms.proofs.ReachLaws.{stepped, moves, wrong_here}
 use Rattle.terms.proofs.TermSteps.{same_swapped}
@@ -88,3 +93,28 @@ module _ (text sn : List ℕ) (cs : List Command) (name : List ℕ) (k at : ℕ)
         go : (o : Option tokens.Token) → is_token (symbol sn) o ≡ false → is_token (symbol BOOL) o ≡ false → stepped (in_giving sn cs name k) o ≡ none
         go none p q = refl
         go (some x) p q = given_by x (same_swapped x (symbol sn) ∙ p) (same_swapped x (symbol BOOL) ∙ q)
+
+-- neither a closing bracket nor the sort; neither the sort nor Bool
+module _ (text : List ℕ) (l : Lexeme) (sn : List ℕ) (p : Part) (is : PartIs text l sn p) where
+  pub no_argument : (p ≡ Part.Bool) ⊎ (p ≡ Part.Other) → (is_token closing (lexeme_read text l) ≡ false) × (is_token (symbol sn) (lexeme_read text l) ≡ false)
+  no_argument (inl e) = let b = subst (PartIs text l sn) e is in (ap (is_token closing) b.0, b.1)
+  no_argument (inr e) = let b = subst (PartIs text l sn) e is in (b.0, b.1)
+
+  pub no_result : (p ≡ Part.Closing) ⊎ (p ≡ Part.Other) → (is_token (symbol sn) (lexeme_read text l) ≡ false) × (is_token (symbol BOOL) (lexeme_read text l) ≡ false)
+  no_result (inl e) = let b = subst (PartIs text l sn) e is in (ap (is_token (symbol sn)) b, ap (is_token (symbol BOOL)) b)
+  no_result (inr e) = let b = subst (PartIs text l sn) e is in (b.1, b.2)
+
+-- after three arguments only the closing bracket will do
+module _ (text sn : List ℕ) (cs : List Command) (name : List ℕ) (k at : ℕ) (three : k ≡ 3) (r : Reached text (in_taking sn cs name k) at) where
+  at_three : Reached text (in_taking sn cs name 3) at
+  at_three = subst (λ (n : ℕ). Reached text (in_taking sn cs name n) at) three r
+
+  pub last_closes : {next : ℕ} → Exactly text at closing (Ok next) → Reached text (in_giving sn cs name 3) next
+  last_closes (t, l, e, n) = subst (Reached text (in_giving sn cs name 3)) n (arity_closes text sn cs name 3 at t l at_three e)
+
+  pub last_wrong : {w : WrongToken} → Exactly text at closing (Err w) → WrongAt text w.0
+  last_wrong (t, l, e, p) = subst (WrongAt text) p (arity_wrong text sn cs name 3 at t l at_three e (inr (omega arith)))
+
+pub byte_small : (k : ℕ) (s : Sort) (byte : ℕ) → k ≤ 3 → byte ≡ byte_of k s → byte < 20
+byte_small k term byte h e = omega arith
+byte_small k formula byte h e = omega arith

@@ -1,27 +1,32 @@
 -- One token more of a text that is read so far: it is taken, and the state is the next; or it is not, and the text is refused there
 -- (02, E1: 14, 15, "the earlier one, 14 if equal"). Assumes nothing.
 use mathlib.Core.Path.{◌≡◌, refl, sym, ap, ◌∙◌, subst}
-use Prim.Native.Nat.{ℕ, ◌≤◌, ◌<◌}
+use Prim.Native.Nat.{ℕ, ◌+◌, ◌≤◌, ◌<◌}
+use native.Mathlib.Numerals.{add-one}
+use native.Mathlib.Omega.{arith}
 use mathlib.Core.Bool.{Bool, true, false}
-use mathlib.Core.List.{List, [], ◌∷◌, ◌++◌, append_assoc}
+use mathlib.Core.List.{List, [], ◌∷◌, ◌++◌, map, append_assoc}
 use mathlib.Core.Option.{Option, none, some}
-use lib.ListN.{length}
+use lib.ListN.{length, get_or, drop, drop_of_length-le}
+use lib.Seq.{drop-cons}
 use lib.Dec.{ltb}
 use borrow.Author.Tests.{lt-ltb, le-ltb}
+use Rattle.std.specs.Prelude.{Result, Ok, Err}
 use Rattle.definitions.specs.Lists.{snoc}
 use Rattle.definitions.specs.Problem.Check.{refuse}
 use Rattle.definitions.specs.Operations.Answers.{Answer, refused, given}
 use Rattle.definitions.specs.Text.Tokens.{Placed, tokens_of, same_token}
 use Rattle.definitions.specs.Text.Tokens as tokens
 use Rattle.definitions.specs.Text.Grammar.{Script}
-use Rattle.definitions.specs.Text.Reader.{State, Stage, exact, start, goes, unless_not, step, level_of, is_finished, script_of, read_from, script_read}
+use Rattle.definitions.specs.Text.Reader.{State, Stage, exact, start, goes, each, unless_not, step, level_of, is_finished, script_of, read_from, script_read}
 use Rattle.theorems.specs.Texts.{plain_tokens}
 use Rattle.theorems.proofs.Text.Taken.Runs.{runs, runs_step, runs_append, token_same}
 use Rattle.theorems.proofs.Text.Taken.Told.{plain_append}
 use Rattle.terms.specs.Lexing.{lexeme_read, tokens_at, led, Lexed}
-use Rattle.terms.specs.Reading.{Reached, WrongAt, is_token, Exactly, Exacts, ReachedBy}
+use Rattle.terms.specs.Reading.{Reached, WrongAt, is_token, Exactly, ReachedBy, due_read}
 use Rattle.terms.specs.declared.tokens.Token.{Token}
-use Rattle.terms.specs.declared.exact.Step.{Step}
+use Rattle.terms.specs.declared.exact.WrongToken.{WrongToken}
+use Rattle.terms.specs.declared.exact.Due.{Due}
 use Rattle.terms.proofs.LexemeLaws.{end_place}
 
 -- before anything is read
@@ -110,21 +115,33 @@ module _ (text : List ℕ) (st : State) (at : ℕ) (x : tokens.Token) (then : St
   unfolding step
   exact_by y e = ap (λ (b : Bool). unless_not b (goes st then)) e
 
-  pub exact_moves : (next : ℕ) → level_of then ≤ 64 → Exactly text at x (Step.At next) → Reached text (goes st then) next
+  pub exact_moves : (next : ℕ) → level_of then ≤ 64 → Exactly text at x (Ok next) → Reached text (goes st then) next
   exact_moves next h (t, l, e, n) =
       subst (Reached text (goes st then)) n (moves text (goes st (exact x then)) at r t l x (goes st then) e (exact_by x (token_same x)) h)
 
-  pub exact_wrong : (place : ℕ) → Exactly text at x (Step.Wrong place) → WrongAt text place
-  exact_wrong place (t, l, e, p) =
+  pub exact_wrong : (w : WrongToken) → Exactly text at x (Err w) → WrongAt text w.0
+  exact_wrong w (t, l, e, p) =
       subst (WrongAt text) p (wrong_here text (goes st (exact x then)) at r t l (go (lexeme_read text t.lexeme) e) refl)
     where
       go : (o : Option tokens.Token) → is_token x o ≡ false → stepped (goes st (exact x then)) o ≡ none
       go none q = refl
       go (some y) q = exact_by y q
 
--- the same from a step on, which may be wrong already
-pub exactly_on : (text : List ℕ) (st : State) (x : tokens.Token) (then : Stage) (s r : Step) → level_of then ≤ 64 → Exacts text x s r
-    → ReachedBy text (goes st (exact x then)) s → ReachedBy text (goes st then) r
-exactly_on text st x then (Step.Wrong p) r h e w = subst (ReachedBy text (goes st then)) (sym e) w
-exactly_on text st x then (Step.At at) (Step.At next) h e reached = exact_moves text st at x then reached next h e
-exactly_on text st x then (Step.At at) (Step.Wrong p) h e reached = exact_wrong text st at x then reached p e
+-- both at once
+pub exactly_on : (text : List ℕ) (st : State) (at : ℕ) (x : tokens.Token) (then : Stage) (r : Result ℕ WrongToken) → level_of then ≤ 64
+    → Exactly text at x r → Reached text (goes st (exact x then)) at → ReachedBy text (goes st then) r
+exactly_on text st at x then (Ok next) h e reached = exact_moves text st at x then reached next h e
+exactly_on text st at x then (Err w) h e reached = exact_wrong text st at x then reached w e
+
+-- tokens that must come, from the k-th on
+pub dues_next : (dues : List Due) (k : ℕ) → k < length dues
+    → map due_read (drop k dues) ≡ due_read (get_or dues k Due.Opening) ∷ map due_read (drop (k + 1) dues)
+dues_next dues k h =
+    ap (map due_read) (drop-cons dues k Due.Opening h ∙ ap (λ (n : ℕ). get_or dues k Due.Opening ∷ drop n dues) (sym (add-one k)))
+
+pub dues_end : (dues : List Due) (k : ℕ) → length dues ≤ k → map due_read (drop k dues) ≡ []
+dues_end dues k h = ap (map due_read) (drop_of_length-le dues {i = k} h)
+
+pub level_each : (ts : List tokens.Token) (then : Stage) → level_of then ≤ 64 → level_of (each ts then) ≤ 64
+level_each [] then h = h
+level_each (t ∷ ts) then h = omega arith

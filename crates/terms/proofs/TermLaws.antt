@@ -8,7 +8,9 @@ use mathlib.Core.Option.{Option, none, some}
 use lib.ListN.{length}
 use lib.Dec.{ltb}
 use borrow.Author.Tests.{ltb-true}
+use Rattle.std.specs.Prelude as Maybe
 use Rattle.definitions.specs.Lists.{all}
+use Rattle.definitions.specs.Problem.Node.{Node}
 use Rattle.definitions.specs.Problem.Ops.{Sort, term, formula, same_sort}
 use Rattle.definitions.specs.Text.Tokens.{opening, closing, symbol, same_token}
 use Rattle.definitions.specs.Text.Tokens as tokens
@@ -21,17 +23,18 @@ use Rattle.theorems.proofs.Text.Meant.Reading.{Small}
 use Rattle.theorems.proofs.Text.Taken.Runs.{first_passes}
 use Rattle.terms.specs.Lexing.{lexeme_read, Lexed}
 use Rattle.terms.specs.Reading.{Reached, WrongAt, NoSymbol, is_token}
-use Rattle.terms.specs.Symbols.{head_read, sort_is, Symbols}
-use Rattle.terms.specs.Lists.{no_row}
-use Rattle.terms.specs.Laying.{table_in, Performs}
+use Rattle.problem.specs.Wanted.{sort_read}
+use Rattle.terms.specs.Symbols.{Symbols}
+use Rattle.terms.specs.Heads.{head_read}
+use Rattle.terms.specs.Lists.{Row, no_row}
+use Rattle.terms.specs.Laying.{over, standing, Performs}
 use Rattle.terms.specs.Rowing.{RowIs, SymbolSmall, Finishes}
 use Rattle.terms.specs.Terms.{in_list, TableGood, TermWanted, TermRead, ListSo}
 use Rattle.terms.specs.declared.tokens.Token.{Token}
 use Rattle.terms.specs.declared.heads.Head as code
 use Rattle.terms.specs.declared.declared.Declared.{Declared}
-use Rattle.terms.specs.declared.lists.Row.{Row}
-use Rattle.terms.specs.declared.nodes.Laying.{Laying}
-use Rattle.terms.specs.declared.nodes.Asked.{Asked}
+use Rattle.problem.specs.declared.ops.Sort as sorts
+use Rattle.terms.specs.declared.declared.Shelved.{Shelved}
 use Rattle.terms.proofs.HeadLaws.{bare_none}
 use Rattle.terms.proofs.ReachLaws.{ends}
 use Rattle.terms.proofs.LexemeLaws.{end_place}
@@ -70,7 +73,7 @@ module _ (sig : List Symbol) (s : Sort) (x : tokens.Token) (h : Head) where
 -- the number of a symbol that is declared is a byte, where there are few
 pub symbol_small : (sig : List Symbol) (h : code.Head) → head_right sig (head_read h) ≡ true → length sig ≤ 32 → SymbolSmall h
 symbol_small sig (code.Head.Applied number f arity) e few =
-    let l = ltb-true number (length sig) (and_left (ltb number (length sig)) (same_sort (symbol_at sig number).result (sort_is f)) e) in
+    let l = ltb-true number (length sig) (and_left (ltb number (length sig)) (same_sort (symbol_at sig number).result (sort_read f)) e) in
     omega arith
 symbol_small sig (code.Head.Choice f) e few = tt
 symbol_small sig code.Head.Equals e few = tt
@@ -93,38 +96,38 @@ nothing_bare text sn cs w row outer at r t l s n f p q = go (lexeme_read text t.
         bare_wrong text sn cs w row outer at r t l s n x e (same_swapped x closing ∙ p) (same_swapped x opening ∙ q) (bare_none (symbols_in cs) s x f)
 
 -- what is known of the declared symbols of a text that is read so far
-pub symbols_right : {text sn : List ℕ} {cs : List Command} {shelf : List ℕ} {d : Declared} → Symbols text sn cs shelf d → Small (symbols_in cs)
+pub symbols_right : {text sn : List ℕ} {cs : List Command} {shelf : List Shelved} {d : Declared} → Symbols text sn cs shelf d → Small (symbols_in cs)
 symbols_right {text} {sn} {cs} {shelf} {d} symbols = ready_small cs (reached_ready text sn cs d.command symbols.reached).1
 
 -- a list is laid to its end, and its term is right
-module _ {sig : List Symbol} (small : Small sig) (head : code.Head) (args : Terms) {nodes₀ nodes : List ℕ} {l₀ l : Laying} (good : TableGood sig nodes₀ l₀)
-    {row : Row} {pending nodes' : List ℕ} {r : Asked} (right : head_right sig (head_read head) ≡ true) (whole : terms_right sig (wanted_by sig (head_read head)) args ≡ true)
-    (so : ListSo sig (head_read head) (table_in nodes₀ l₀.count) l₀.over (trees_of args) row pending nodes l)
-    (ends : Finishes head row pending nodes l r nodes') where
-  pub list_whole : Performs (lay (head_tree (head_read head) (trees_of args))) nodes₀ l₀ r nodes'
+module _ {sig : List Symbol} (small : Small sig) (head : code.Head) (args : Terms) {v₀ v v' : Maybe.Option (List Node)} (good : TableGood sig v₀)
+    {row : Row} {r : ℕ} (right : head_right sig (head_read head) ≡ true) (whole : terms_right sig (wanted_by sig (head_read head)) args ≡ true)
+    (so : ListSo sig (head_read head) (standing v₀) (over v₀) (trees_of args) row v)
+    (ends : Finishes head row v r v') where
+  pub list_whole : Performs (lay (head_tree (head_read head) (trees_of args))) v₀ r v'
   list_whole =
-      list_ends sig (head_read head) (table_in nodes₀ l₀.count) l₀.over good.twins good.earlier (trees_of args) refl refl so
-      (term_counted sig small (head_read head) args right whole) (term_full sig small (head_read head) args right whole) ends.few ends.small ends.stays
+      list_ends sig (head_read head) (standing v₀) (over v₀) good.twins good.earlier (trees_of args) refl refl so
+      (term_counted sig small (head_read head) args right whole) (term_full sig small (head_read head) args right whole) ends.stays
       (λ p k is. ends.performs k is (symbol_small sig head right (good.symbols_few p)))
 
 -- a bare term
-pub bare_read : {text sn : List ℕ} {cs : List Command} {shelf : List ℕ} {d : Declared} {w : Wanted} {terms : Terms} {outer : List Opened} {at : ℕ} {t : Token} {f : Bool}
-    {levels : ℕ} {nodes : List ℕ} {l : Laying} (name : List ℕ) (head : code.Head) {row : Row} {pending nodes' : List ℕ} {r : Asked}
-    → TermWanted text sn cs shelf d w terms outer at t f levels nodes l → lexeme_read text t.lexeme ≡ some (symbol name)
-    → bare (symbols_in cs) (sort_is f) (symbol name) ≡ some (head_read head) → RowIs no_row row pending → Finishes head row pending nodes l r nodes'
-    → TermRead text sn cs w terms outer f nodes l t.next r nodes'
-bare_read {text} {sn} {cs} {w = w} {terms} {outer} {at} {t} {f} {levels} {nodes} {l} name head wanted e b is ends =
+pub bare_read : {text sn : List ℕ} {cs : List Command} {shelf : List Shelved} {d : Declared} {w : Wanted} {terms : Terms} {outer : List Opened} {at : ℕ} {t : Token} {f : sorts.Sort}
+    {levels : ℕ} {v v' : Maybe.Option (List Node)} (name : List ℕ) (head : code.Head) {row : Row} {r : ℕ}
+    → TermWanted text sn cs shelf d w terms outer at t f levels v → lexeme_read text t.lexeme ≡ some (symbol name)
+    → bare (symbols_in cs) (sort_read f) (symbol name) ≡ some (head_read head) → RowIs no_row row → Finishes head row v r v'
+    → TermRead text sn cs w terms outer f v t.next r v'
+bare_read {text} {sn} {cs} {w = w} {terms} {outer} {at} {t} {f} {levels} {v} name head wanted e b is ends =
     let sig = symbols_in cs in
-    let right = bare_right sig (sort_is f) (symbol name) (head_read head) b in
+    let right = bare_right sig (sort_read f) (symbol name) (head_read head) b in
     let deep : length outer ≤ 64 = (let k = wanted.level in omega arith) in
     record {
       head = head_read head;
       args = end;
-      reached = bare_taken text sn cs w terms outer at wanted.reached t wanted.lexed (sort_is f) wanted.wanted (symbol name) (head_read head) e refl refl b deep;
+      reached = bare_taken text sn cs w terms outer at wanted.reached t wanted.lexed (sort_read f) wanted.wanted (symbol name) (head_read head) e refl refl b deep;
       head_right_lem = right.0;
       sort_is_lem = right.1;
       args_right = right.2;
       performs =
           list_whole (symbols_right wanted.symbols) head end wanted.good right.0 right.2
-          (list_begins sig (head_read head) (table_in nodes l.count) l.over l refl refl is) ends;
+          (list_begins sig (head_read head) (standing v) (over v) v refl refl is) ends;
     }

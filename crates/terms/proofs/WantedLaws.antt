@@ -1,22 +1,25 @@
 -- What a head wants after some arguments, by how many are seen, where three stand for any more. Assumes nothing.
-use mathlib.Core.Path.{◌≡◌, refl, sym, ap, ap₂, ◌∙◌, subst}
+use mathlib.Core.Path.{◌≡◌, refl, sym, ap, ap₂, ◌∙◌}
 use Prim.Native.Nat.{ℕ, zero, suc, min, ◌+◌, ◌≤◌, ◌<◌}
 use native.Mathlib.Omega.{arith}
 use mathlib.Core.Bool.{Bool, true, false}
 use mathlib.Core.List.{List, [], ◌∷◌}
-use mathlib.Core.Logic.{inl, inr}
+use mathlib.Core.Logic.{◌⊎◌, inl, inr}
 use mathlib.Core.Option.{Option, none, some}
 use lib.ListN.{length, drop, replicate, length-replicate, get_or-replicate, drop_of_length-le}
 use lib.Seq.{drop-cons, drop-drop}
 use lib.Dec.{leb}
 use borrow.Author.Tests.{le-leb, lt-leb}
+use Rattle.std.specs.Prelude.{None, Some}
+use Rattle.std.specs.Prelude as code
 use Rattle.definitions.specs.Problem.Ops.{Sort, term, formula}
 use Rattle.definitions.specs.Text.Grammar.{Symbol, wanted_by, exactly, two_or_more, next, next_of, left, no_sort}
 use Rattle.definitions.specs.Text.Grammar as grammar
 use Rattle.theorems.proofs.Laws.Tests.{split}
-use Rattle.terms.specs.Symbols.{sort_is, head_read, ArityIs, left_after, least_of, wanted_read, wanted_below, Readies, Wants}
+use Rattle.problem.specs.Wanted.{sort_read, wanted_read}
+use Rattle.terms.specs.Heads.{head_read, ArityIs, left_after, least_of, wanted_below, Readies, Wants}
 use Rattle.terms.specs.declared.heads.Head.{Head}
-use Rattle.terms.specs.declared.heads.Wanted.{Wanted}
+use Rattle.problem.specs.declared.ops.Sort as sorts
 
 -- what is left after n arguments
 must_after : (n : ℕ) (w : grammar.Wanted) → (left_after n w).must ≡ drop n w.must
@@ -111,51 +114,37 @@ module _ (s : Sort) (m seen n : ℕ) (h : m ≤ 3) (e : seen ≡ min n 3) where
   alike_next = counted ∙ sym (next_after n (exactly (replicate m s)) ∙ all_alike s m n)
 
 -- by the head
-pub wants_as : (seen : ℕ) (r : Wanted) {h g : Head} → h ≡ g → Wants g seen r → Wants h seen r
-wants_as seen r e = subst (λ (h : Head). Wants h seen r) (sym e)
-
-module _ (seen : ℕ) (r : Wanted) where
-  pub wants_applied : (number : ℕ) (f : Bool) (arity : ℕ) → wanted_read r ≡ wanted_below term seen arity → Wants (Head.Applied number f arity) seen r
+module _ (seen : ℕ) (r : code.Option sorts.Sort) where
+  pub wants_applied : (number : ℕ) (f : sorts.Sort) (arity : ℕ) → wanted_read r ≡ wanted_below term seen arity → Wants (Head.Applied number f arity) seen r
   wants_applied number f arity p sig a n e =
       p ∙ alike_next term arity seen n a.1 e ∙ ap (λ (m : ℕ). next (left_after n (exactly (replicate m term)))) a.0
 
   pub wants_not : wanted_read r ≡ wanted_below formula seen 1 → Wants Head.Not seen r
   wants_not p sig a n e = p ∙ alike_next formula 1 seen n (omega arith) e
 
-  pub wants_first : (f : Bool) → seen ≡ 0 → wanted_read r ≡ some formula → Wants (Head.Choice f) seen r
-  wants_first f z p sig a zero e = p
-  wants_first f z p sig a (suc n) e = absurd (omega arith)
-
-  pub wants_choice : (f : Bool) → (seen ≡ 0 → ⊥) → wanted_read r ≡ wanted_below (sort_is f) seen 3 → Wants (Head.Choice f) seen r
+  pub wants_choice : (f : sorts.Sort) → (seen ≡ 0 → ⊥) → wanted_read r ≡ wanted_below (sort_read f) seen 3 → Wants (Head.Choice f) seen r
   wants_choice f z p sig a zero e = absurd (z e)
   wants_choice f z p sig a (suc n) e =
       p
-      ∙ counted (sort_is f) 3 seen (suc n) (omega arith) e
-      ∙ sym (after_first (sort_is f) 2 n)
-      ∙ sym (next_after (suc n) (exactly (formula ∷ sort_is f ∷ sort_is f ∷ [])) ∙ all_alike (sort_is f) 2 n)
+      ∙ counted (sort_read f) 3 seen (suc n) (omega arith) e
+      ∙ sym (after_first (sort_read f) 2 n)
+      ∙ sym (next_after (suc n) (exactly (formula ∷ sort_read f ∷ sort_read f ∷ [])) ∙ all_alike (sort_read f) 2 n)
 
-  pub wants_equals : wanted_read r ≡ some term → Wants Head.Equals seen r
-  wants_equals p sig a n e = p ∙ sym (next_after n (two_or_more term) ∙ two_more term n)
+module _ (seen : ℕ) where
+  pub wants_equals : Wants Head.Equals seen (Some sorts.Sort.Term)
+  wants_equals sig a n e = sym (next_after n (two_or_more term) ∙ two_more term n)
 
-  module _ (p : wanted_read r ≡ some formula) where
-    many : (n : ℕ) → wanted_read r ≡ next (left_after n (two_or_more formula))
-    many n = p ∙ sym (next_after n (two_or_more formula) ∙ two_more formula n)
+  many : (n : ℕ) → some formula ≡ next (left_after n (two_or_more formula))
+  many n = sym (next_after n (two_or_more formula) ∙ two_more formula n)
 
-    pub wants_and : Wants Head.And seen r
-    wants_and sig a n e = many n
+  pub wants_formulas : {h : Head} → (h ≡ Head.And) ⊎ ((h ≡ Head.Or) ⊎ (h ≡ Head.Implies)) → Wants h seen (Some sorts.Sort.Formula)
+  wants_formulas (inl i) = rw i (λ sig a n e. many n)
+  wants_formulas (inr (inl i)) = rw i (λ sig a n e. many n)
+  wants_formulas (inr (inr i)) = rw i (λ sig a n e. many n)
 
-    pub wants_or : Wants Head.Or seen r
-    wants_or sig a n e = many n
+  nothing : (n : ℕ) → none ≡ next (left_after n (exactly []))
+  nothing n = sym (next_after n (exactly []) ∙ no_more n)
 
-    pub wants_implies : Wants Head.Implies seen r
-    wants_implies sig a n e = many n
-
-  module _ (p : wanted_read r ≡ none) where
-    nothing : (n : ℕ) → wanted_read r ≡ next (left_after n (exactly []))
-    nothing n = p ∙ sym (next_after n (exactly []) ∙ no_more n)
-
-    pub wants_true : Wants Head.True seen r
-    wants_true sig a n e = nothing n
-
-    pub wants_false : Wants Head.False seen r
-    wants_false sig a n e = nothing n
+  pub wants_nothing : {h : Head} → (h ≡ Head.True) ⊎ (h ≡ Head.False) → Wants h seen None
+  wants_nothing (inl i) = rw i (λ sig a n e. nothing n)
+  wants_nothing (inr i) = rw i (λ sig a n e. nothing n)

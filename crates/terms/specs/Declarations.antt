@@ -1,6 +1,6 @@
 -- The declared symbols, found in the tokens of a text again: each word declare-fun is followed by a symbol's name, its arguments in
 -- brackets, and its result (02, E1). That these are the symbols of the commands is a law (proofs/DeclaredLaws). Assumes nothing.
-use Rattle.std.specs.Prelude.{◌≡◌, ℕ, suc, ◌≤◌, ◌<◌, Bool, true, false, List, [], ◌∷◌, length, drop}
+use Rattle.std.specs.Prelude.{◌≡◌, ℕ, suc, ◌≤◌, ◌<◌, true, false, List, [], ◌∷◌, length, drop, Option, Some, None}
 use Rattle.std.proofs.Math.Option.{none, some}
 use Rattle.definitions.specs.Problem.Ops.{Sort, term, formula}
 use Rattle.definitions.specs.Text.Ascii.{ascii}
@@ -65,6 +65,13 @@ name_in (Lexeme.Word n) = n
 abbrev pub LexemeInside : List ℕ → Lexeme → Type 0
 LexemeInside text l = NameWithin text (name_in l)
 
+-- the offset behind the first word declare-fun
+abbrev pub DeclaresNext : List ℕ → ℕ → Option ℕ → Type 0
+DeclaresNext text from (Some at) =
+    (at ≤ length text)
+    × ((sort_name : List ℕ) → declared_in sort_name (plain_at text from) ≡ declared_here sort_name (plain_at text at) ∷ declared_in sort_name (plain_at text at))
+DeclaresNext text from None = (sort_name : List ℕ) → declared_in sort_name (plain_at text from) ≡ []
+
 -- the offset behind the first token
 pub record SkipsTo (text : List ℕ) (at to : ℕ) : Type 0 where
   pub behind : plain_at text to ≡ drop 1 (plain_at text at)
@@ -76,11 +83,6 @@ pub record ArgumentsTo (text : List ℕ) (from : ℕ) (r : Counted) : Type 0 whe
   pub inside : r.next ≤ length text
   pub counted : arguments_in (plain_at text from) ≤ 3 → r.arity ≡ arguments_in (plain_at text from)
   pub after : arguments_in (plain_at text from) ≤ 3 → plain_at text r.next ≡ after_arguments (plain_at text from)
-
--- the result is the sort
-abbrev pub ResultIs : List ℕ → List Token → Bool → Type 0
-ResultIs sort_name ts true = result_in sort_name ts ≡ term
-ResultIs sort_name ts false = result_in sort_name ts ≡ formula
 
 -- the byte of the symbol that is declared by these tokens, if it takes at most three arguments
 pub record ByteIs (sort_name : List ℕ) (ts : List Token) (byte : ℕ) : Type 0 where

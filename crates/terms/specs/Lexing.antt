@@ -1,10 +1,10 @@
 -- What the lexer's answers stand for: the tokens of a text from an offset on, by the first of them (02, E1). Assumes nothing.
-use Rattle.std.specs.Prelude.{◌≡◌, ℕ, ◌+◌, ◌-◌, ◌≤◌, ◌<◌, true, false, List, [], ◌∷◌, length, get_or, take, drop, eqb}
+use Rattle.std.specs.Prelude.{◌≡◌, ℕ, ◌+◌, ◌-◌, ◌≤◌, ◌<◌, true, false, List, [], ◌∷◌, length, get_or, take, drop, eqb, Some, None}
+use Rattle.std.specs.Prelude as code
 use Rattle.std.proofs.Math.Option.{Option, none, some}
 use Rattle.definitions.specs.Text.Ascii.{same_bytes}
 use Rattle.definitions.specs.Text.Tokens.{opening, closing, nought, wrong, symbol, word, Placed, token_at, tokens_from, blank, barred}
 use Rattle.definitions.specs.Text.Tokens as tokens
-use Rattle.problem.specs.declared.bytes.Found.{Found}
 use Rattle.terms.specs.declared.tokens.Name.{Name}
 use Rattle.terms.specs.declared.tokens.Lexeme.{Lexeme}
 use Rattle.terms.specs.declared.tokens.Token.{Token}
@@ -83,12 +83,7 @@ pub record Lexed (text : List ℕ) (at : ℕ) (t : Token) : Type 0 where
   pub later : at ≤ t.next
   pub inside : t.next ≤ length text
 
--- a gap goes on, or ends, where a comment or the gap that began at an offset does
-pub record CommentTo (text : List ℕ) (from to : ℕ) : Type 0 where
-  pub goes_on : from + blank true (drop from text) ≡ to + blank false (drop to text)
-  pub onward : from ≤ to
-  pub inside : to ≤ length text
-
+-- a gap that began at an offset ends
 pub record BlankTo (text : List ℕ) (from to : ℕ) : Type 0 where
   pub ends : to ≡ from + blank false (drop from text)
   pub inside : to ≤ length text
@@ -99,6 +94,6 @@ pub record RunsTo (text : List ℕ) (from : ℕ) (bytes : List ℕ) (to : ℕ) :
   pub onward : from ≤ to
   pub inside : to ≤ length text
 
-abbrev pub BarredTo : List ℕ → ℕ → Found → Type 0
-BarredTo text from (Found.At to) = (barred (drop from text) ≡ some (between text from to)) × (from ≤ to) × (to < length text)
-BarredTo text from Found.Nothing = barred (drop from text) ≡ none
+abbrev pub BarredTo : List ℕ → ℕ → code.Option ℕ → Type 0
+BarredTo text from (Some to) = (barred (drop from text) ≡ some (between text from to)) × (from ≤ to) × (to < length text)
+BarredTo text from None = barred (drop from text) ≡ none

@@ -4,7 +4,6 @@ pub mod Lexing
 pub mod Lists
 pub mod Named
 pub mod Reading
-pub mod Words
 pub mod Rowing
 pub mod Symbols
 pub mod Commands
@@ -13,3 +12,4 @@ pub mod Ranks
 pub mod Scripts
 pub mod Functions
 pub mod Following
+pub mod Heads

@@ -1,61 +1,36 @@
 // Where a term stands and where its list goes on: the head after a bracket, and what follows in a list.
-ghost use Rattle.std.specs.Prelude.{◌≡◌, ℕ, suc, min, ◌≤◌};
 ghost use Rattle.terms.specs.Lexing.{LexemeFits};
-ghost use Rattle.terms.specs.Symbols.{DeclaredSound};
 ghost use Rattle.terms.specs.Following.{HeadsAt, Follows};
 
-use crate::declared::Declared;
-use crate::heads::{Head, Headed, Wanted, bracketed, ready, wants};
-use crate::tokens::Lexeme;
-
-// What follows in a list: its end, an argument, or what will not do.
-#[derive(Clone, Copy)]
-pub enum Next {
-    End,
-    Argument { formula: bool },
-    Wrong,
-}
+use crate::declared::Signature;
+use crate::heads::{Head, Place, head_of, ready, wants};
+use crate::tokens::{Lexeme, Token};
+use definitions::Refusal;
+use problem::ops::Sort;
 
 // The head that stands after a bracket.
-pub fn head_at(
-    text: &[u8],
-    shelf: &[usize],
-    declared: Declared,
-    lexeme: Lexeme,
-    formula: bool,
-) -> Headed
-    requires { DeclaredSound text.now shelf.now declared × LexemeFits text.now lexeme }
-    ensures { HeadsAt text.now shelf.now declared lexeme formula result }
+pub fn head_at(signature: Signature<'_>, lexeme: Lexeme, sort: Sort) -> Option<Head>
+    requires { LexemeFits signature.text.now lexeme }
+    ensures { let g = signature.entry in HeadsAt g.text.now g.shelf.now g.declared lexeme sort result }
 {
     let Lexeme::Symbol(name) = lexeme else {
-        return Headed::Nothing;
+        return None;
     };
-    bracketed(text, shelf, declared, name, formula)
+    head_of(signature, name, sort, Place::Bracketed)
 }
 
-// By the lexeme, after so many arguments, counted up to three.
-pub fn follows(head: Head, seen: usize, lexeme: Lexeme) -> Next
-    ensures { Follows head seen lexeme result }
+// What a token begins after so many arguments, counted up to three: an argument of a sort, or the list's end where there is none.
+pub fn follows(head: Head, seen: usize, token: Token) -> Result<Option<Sort>, Refusal>
+    ensures { Follows head seen token result }
 {
-    match lexeme {
-        Lexeme::End => Next::Wrong,
-        Lexeme::Closing => {
-            if ready(head, seen) {
-                return Next::End;
-            }
-            Next::Wrong
-        }
+    let wrong = Err(Refusal::WrongToken(token.place));
+    match token.lexeme {
+        Lexeme::End => wrong,
+        Lexeme::Closing if ready(head, seen) => Ok(None),
+        Lexeme::Closing => wrong,
         _ => match wants(head, seen) {
-            Wanted::Term => Next::Argument { formula: false },
-            Wanted::Formula => Next::Argument { formula: true },
-            Wanted::Nothing => Next::Wrong,
+            Some(sort) => Ok(Some(sort)),
+            None => wrong,
         },
     }
-}
-
-// One argument more, counted up to three.
-pub fn one_more(seen: usize) -> usize
-    ensures { ((n : ℕ) → seen ≡ min n 3 → result ≡ min (suc n) 3) × (result ≤ 3) }
-{
-    if seen < 3 { seen + 1 } else { 3 }
 }

@@ -1,113 +1,71 @@
 // Tokens that must come.
-ghost use Rattle.std.specs.Prelude.{◌≤◌, length};
-ghost use Rattle.definitions.specs.Text.Tokens as tokens;
-ghost use Rattle.terms.specs.Reading.{Exactly, Exacts, due_read, StepWithin};
+ghost use Rattle.std.specs.Prelude.{◌≡◌, ◌≤◌, length};
+ghost use Rattle.terms.specs.Lexing.{LexemeFits, lexeme_read};
+ghost use Rattle.terms.specs.Reading.{Exactly, due_read, is_token, StepWithin, Passes};
 
-use crate::bytes::same;
 use crate::tokens::{Lexeme, next};
+use definitions::Refusal;
 
-// The offset behind a token that had to come; or the place where another stands, or the text ends.
-#[derive(Clone, Copy)]
-pub enum Step {
-    At(usize),
-    Wrong(usize),
+// The place of a token that will not do, or of the end of the text.
+#[derive(Clone, Copy, PartialEq, Eq)]
+pub struct WrongToken(pub usize);
+
+impl From<WrongToken> for Refusal {
+    ghost use Rattle.definitions.specs.declared.Refusal.TheVariants.{WrongToken};
+
+    ghost from_gives = { λ wrong refusal. refusal ≡ WrongToken wrong.0 };
+
+    fn from(wrong: WrongToken) -> Refusal {
+        Refusal::WrongToken(wrong.0)
+    }
 }
 
 // A token that must come: a bracket, 0, or the reserved word or the symbol of a name.
 #[derive(Clone, Copy)]
-pub enum Due {
+pub enum Due<'a> {
     Opening,
     Closing,
     Nought,
-    Word,
-    Symbol,
+    Word(&'a [u8]),
+    Symbol(&'a [u8]),
 }
 
-// A token that must come from a step on, which may be wrong already.
-pub fn exact(text: &[u8], step: Step, due: Due, name: &[u8]) -> Step
-    requires { StepWithin text.now step }
-    ensures { Exacts text.now (due_read due name.now) step result × StepWithin text.now result }
+#[tactic(auto, using(crate::proofs::SameLaws::names))]
+fn is_due(text: &[u8], lexeme: Lexeme, due: Due<'_>) -> bool
+    requires { LexemeFits text.now lexeme }
+    ensures { result ≡ is_token (due_read due.entry) (lexeme_read text.now lexeme) }
 {
-    let Step::At(at) = step else {
-        return step;
-    };
-    match due {
-        Due::Opening => opening(text, at),
-        Due::Closing => closing(text, at),
-        Due::Nought => nought(text, at),
-        Due::Word => word(text, at, name),
-        Due::Symbol => symbol(text, at, name),
+    match (due, lexeme) {
+        (Due::Opening, Lexeme::Opening) => true,
+        (Due::Closing, Lexeme::Closing) => true,
+        (Due::Nought, Lexeme::Nought) => true,
+        (Due::Word(name), Lexeme::Word(found)) => name == found.of(text),
+        (Due::Symbol(name), Lexeme::Symbol(found)) => name == found.of(text),
+        _ => false,
     }
 }
 
-fn opening(text: &[u8], at: usize) -> Step
+// The offset behind a token that must come.
+pub fn exact(text: &[u8], at: usize, due: Due<'_>) -> Result<usize, WrongToken>
     requires { at ≤ length text.now }
-    ensures { Exactly text.now at tokens.opening result }
+    ensures { Exactly text.now at (due_read due.entry) result × StepWithin text.now result }
 {
     let token = next(text, at);
-    let lexeme = token.lexeme;
-    if let Lexeme::Opening = lexeme {
-        return Step::At(token.next);
+    if is_due(text, token.lexeme, due) {
+        Ok(token.next)
+    } else {
+        Err(WrongToken(token.place))
     }
-    Step::Wrong(token.place)
 }
 
-fn closing(text: &[u8], at: usize) -> Step
-    requires { at ≤ length text.now }
-    ensures { Exactly text.now at tokens.closing result }
+// The offset behind tokens that must come one after the other.
+pub fn exact_all(text: &[u8], from: usize, dues: &[Due<'_>]) -> Result<usize, WrongToken>
+    requires { from ≤ length text.now }
+    ensures { Passes text.now from dues.now result }
 {
-    let token = next(text, at);
-    let lexeme = token.lexeme;
-    if let Lexeme::Closing = lexeme {
-        return Step::At(token.next);
+    let mut at = from;
+    for due in dues {
+        at = exact(text, at, *due)?;
     }
-    Step::Wrong(token.place)
-}
-
-fn nought(text: &[u8], at: usize) -> Step
-    requires { at ≤ length text.now }
-    ensures { Exactly text.now at tokens.nought result }
-{
-    let token = next(text, at);
-    let lexeme = token.lexeme;
-    if let Lexeme::Nought = lexeme {
-        return Step::At(token.next);
-    }
-    Step::Wrong(token.place)
-}
-
-// This reserved word.
-fn word(text: &[u8], at: usize, name: &[u8]) -> Step
-    requires { at ≤ length text.now }
-    ensures { Exactly text.now at (tokens.word name.now) result }
-{
-    let token = next(text, at);
-    let lexeme = token.lexeme;
-    if let Lexeme::Word(found) = lexeme {
-        let from = found.from;
-        let to = found.to;
-        if same(name, &text[from..to]) {
-            return Step::At(token.next);
-        }
-        return Step::Wrong(token.place);
-    }
-    Step::Wrong(token.place)
-}
-
-// The symbol of this name.
-fn symbol(text: &[u8], at: usize, name: &[u8]) -> Step
-    requires { at ≤ length text.now }
-    ensures { Exactly text.now at (tokens.symbol name.now) result }
-{
-    let token = next(text, at);
-    let lexeme = token.lexeme;
-    if let Lexeme::Symbol(found) = lexeme {
-        let from = found.from;
-        let to = found.to;
-        if same(name, &text[from..to]) {
-            return Step::At(token.next);
-        }
-        return Step::Wrong(token.place);
-    }
-    Step::Wrong(token.place)
+    Ok(at)
 }

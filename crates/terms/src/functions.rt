@@ -1,86 +1,72 @@
 // A declared function: its name, its rank, and the closing bracket.
 ghost use Rattle.std.specs.Prelude.{◌≤◌, length};
 ghost use Rattle.terms.specs.Lexing.{NameWithin, name_of};
-ghost use Rattle.terms.specs.Symbols.{DeclaredSound};
 ghost use Rattle.terms.specs.Functions.{ReadsName, ReadsRank, ReadsFunction};
 
-use crate::declared::{Declared, free};
-use crate::exact::{Due, Step, exact};
+use crate::declared::Signature;
+use crate::exact::{Due, WrongToken, exact};
 use crate::prologue::Named;
-use crate::ranks::{Arity, Given, read_arity, read_result};
+use crate::ranks::{byte_of, read_arity, read_result};
 use crate::tokens::{Lexeme, Name, next};
 
-// A symbol's byte, and the offset behind its declaration; or the place of a token that will not do.
+// A symbol's byte, and the offset behind its declaration.
 #[derive(Clone, Copy)]
-pub enum Ranked {
-    Rank { byte: usize, at: usize },
-    Wrong(usize),
+pub struct Ranked {
+    pub byte: usize,
+    pub at: usize,
 }
 
-// A declared symbol: its name, its byte and the offset behind its declaration; or the place of a token that will not do.
+// A declared symbol: its name, its byte and the offset behind its declaration.
 #[derive(Clone, Copy)]
-pub enum Function {
-    Symbol { name: Name, byte: usize, at: usize },
-    Wrong(usize),
+pub struct Function {
+    pub name: Name,
+    pub byte: usize,
+    pub at: usize,
 }
 
 // The name, and the bracket that opens its arguments.
-fn function_name(text: &[u8], shelf: &[usize], declared: Declared, at: usize) -> Named
-    requires { DeclaredSound text.now shelf.now declared × (at ≤ length text.now) }
-    ensures { ReadsName text.now shelf.now declared at result }
+fn function_name(signature: Signature<'_>, at: usize) -> Result<Named, WrongToken>
+    requires { at ≤ length signature.text.now }
+    ensures { let g = signature.entry in ReadsName g.text.now g.shelf.now g.declared at result }
 {
+    let text = signature.text;
     let token = next(text, at);
-    let lexeme = token.lexeme;
-    let Lexeme::Symbol(name) = lexeme else {
-        return Named::Wrong(token.place);
+    let Lexeme::Symbol(name) = token.lexeme else {
+        return Err(WrongToken(token.place));
     };
-    if !free(text, shelf, declared, name) {
-        return Named::Wrong(token.place);
+    if !signature.free(name) {
+        return Err(WrongToken(token.place));
     }
-    match exact(text, Step::At(token.next), Due::Opening, b"") {
-        Step::At(behind) => Named::Name { name, at: behind },
-        Step::Wrong(place) => Named::Wrong(place),
-    }
+    let opened = exact(text, token.next, Due::Opening)?;
+    Ok(Named { name, at: opened })
 }
 
 // The result after so many arguments, and the bracket that closes the declaration.
-fn rank_of(text: &[u8], at: usize, sort: Name, arity: usize) -> Ranked
+fn rank_of(text: &[u8], at: usize, sort: Name, arity: usize) -> Result<Ranked, WrongToken>
     requires { (at ≤ length text.now) × NameWithin text.now sort × (arity ≤ 3) }
     ensures { ReadsRank text.now at (name_of text.now sort) arity result }
 {
-    match read_result(text, at, sort) {
-        Given::Wrong(place) => Ranked::Wrong(place),
-        Given::Result {
-            formula,
-            at: behind,
-        } => {
-            let byte = if formula { 16 + arity } else { arity };
-            match exact(text, Step::At(behind), Due::Closing, b"") {
-                Step::At(closed) => Ranked::Rank { byte, at: closed },
-                Step::Wrong(place) => Ranked::Wrong(place),
-            }
-        }
-    }
+    let given = read_result(text, at, sort)?;
+    let closed = exact(text, given.at, Due::Closing)?;
+    Ok(Ranked {
+        byte: byte_of(arity, given.result),
+        at: closed,
+    })
 }
 
 // What stands after declare-fun.
-pub fn read_function(text: &[u8], shelf: &[usize], declared: Declared, at: usize) -> Function
-    requires { DeclaredSound text.now shelf.now declared × (at ≤ length text.now) }
-    ensures { ReadsFunction text.now shelf.now declared at result }
+pub fn read_function(signature: Signature<'_>, at: usize) -> Result<Function, WrongToken>
+    requires { at ≤ length signature.text.now }
+    ensures { let g = signature.entry in ReadsFunction g.text.now g.shelf.now g.declared at result }
 {
-    let sort = declared.sort;
-    match function_name(text, shelf, declared, at) {
-        Named::Wrong(place) => Function::Wrong(place),
-        Named::Name { name, at: opened } => match read_arity(text, opened, sort) {
-            Arity::Wrong(place) => Function::Wrong(place),
-            Arity::Counted { arity, at: taken } => match rank_of(text, taken, sort, arity) {
-                Ranked::Wrong(place) => Function::Wrong(place),
-                Ranked::Rank { byte, at: behind } => Function::Symbol {
-                    name,
-                    byte,
-                    at: behind,
-                },
-            },
-        },
-    }
+    let text = signature.text;
+    let sort = signature.declared.sort;
+    let named = function_name(signature, at)?;
+    let counted = read_arity(text, named.at, sort)?;
+    let ranked = rank_of(text, counted.next, sort, counted.arity)?;
+    Ok(Function {
+        name: named.name,
+        byte: ranked.byte,
+        at: ranked.at,
+    })
 }

@@ -1,25 +1,26 @@
 // Which head a name gives, where a term of a sort is wanted; and what arguments a head wants.
 ghost use Rattle.std.specs.Prelude.{◌≡◌, ◌<◌};
 ghost use Rattle.definitions.specs.Text.Tokens.{symbol};
-ghost use Rattle.definitions.specs.Text.Heads as names;
 ghost use Rattle.terms.specs.Lexing.{name_of, NameWithin};
-ghost use Rattle.terms.specs.Symbols.{sort_is, DeclaredSound, KnownSmall, ArityIn, CoreBare, CoreBracketed, KnownBare, KnownBracketed, Heads, least_of, Readies, wanted_read, wanted_below, Wants};
+ghost use Rattle.terms.specs.Symbols.{KnownSmall};
+ghost use Rattle.problem.specs.Wanted.{sort_read, wanted_read};
+ghost use Rattle.terms.specs.Heads.{ArityIn, CoreAt, KnownAt, named_at, Heads, least_of, Readies, wanted_below, Wants};
 
-use crate::declared::{Declared, Known, find};
+use crate::declared::{Known, Signature};
 use crate::tokens::Name;
 use crate::words::core;
-use problem::bytes::Found;
+use problem::ops::Sort;
 
 // What heads a term: a declared symbol by its number, its result and its arity; ite by the sort that it chooses in; and Core's.
 #[derive(Clone, Copy)]
 pub enum Head {
     Applied {
         number: usize,
-        formula: bool,
+        sort: Sort,
         arity: usize,
     },
     Choice {
-        formula: bool,
+        sort: Sort,
     },
     Equals,
     Not,
@@ -30,167 +31,70 @@ pub enum Head {
     False,
 }
 
-// The head of a name, if it gives one.
+// Where a head stands: bare, or after a bracket.
 #[derive(Clone, Copy)]
-pub enum Headed {
-    Head(Head),
-    Nothing,
-}
-
-// The sort of the next argument, if one may come.
-#[derive(Clone, Copy)]
-pub enum Wanted {
-    Term,
-    Formula,
-    Nothing,
+pub enum Place {
+    Bare,
+    Bracketed,
 }
 
 // The arity of a symbol, by its byte, if it gives the sort that is wanted.
-fn arity_in(byte: usize, formula: bool) -> Found
+fn arity_in(byte: usize, sort: Sort) -> Option<usize>
     requires { byte < 20 }
-    ensures { ArityIn byte (sort_is formula) result }
+    ensures { ArityIn byte sort result }
 {
-    if !formula {
-        if byte < 4 {
-            return Found::At(byte);
-        }
-        return Found::Nothing;
+    match sort {
+        Sort::Term => (byte < 4).then_some(byte),
+        Sort::Formula => byte.checked_sub(16),
     }
-    if byte < 16 {
-        return Found::Nothing;
-    }
-    Found::At(byte - 16)
 }
 
-// Core's names that stand bare, and those that stand after a bracket, by their number.
-fn bare_core(k: usize, formula: bool) -> Headed
-    ensures { CoreBare (sort_is formula) k result }
+// The head that Core's name of a number gives.
+fn core_head(k: usize, sort: Sort, place: Place, inhabited: bool) -> Option<Head>
+    ensures { CoreAt place sort inhabited k result }
 {
-    if !formula {
-        return Headed::Nothing;
+    match (place, sort, k) {
+        (Place::Bare, Sort::Formula, 0) => Some(Head::True),
+        (Place::Bare, Sort::Formula, 1) => Some(Head::False),
+        (Place::Bracketed, Sort::Formula, 2) => Some(Head::Not),
+        (Place::Bracketed, Sort::Formula, 3) => Some(Head::Implies),
+        (Place::Bracketed, Sort::Formula, 4) => Some(Head::And),
+        (Place::Bracketed, Sort::Formula, 5) => Some(Head::Or),
+        (Place::Bracketed, Sort::Formula, 7) if inhabited => Some(Head::Equals),
+        (Place::Bracketed, Sort::Formula, 9) => Some(Head::Choice { sort }),
+        (Place::Bracketed, Sort::Term, 9) if inhabited => Some(Head::Choice { sort }),
+        _ => None,
     }
-    if k == 0 {
-        return Headed::Head(Head::True);
-    }
-    if k == 1 {
-        return Headed::Head(Head::False);
-    }
-    Headed::Nothing
 }
 
-fn bracketed_core(k: usize, formula: bool, inhabited: bool) -> Headed
-    ensures { CoreBracketed (sort_is formula) inhabited k result }
-{
-    if k == 9 {
-        if formula {
-            return Headed::Head(Head::Choice { formula });
-        }
-        if inhabited {
-            return Headed::Head(Head::Choice { formula });
-        }
-        return Headed::Nothing;
-    }
-    if !formula {
-        return Headed::Nothing;
-    }
-    if k == 2 {
-        return Headed::Head(Head::Not);
-    }
-    if k == 3 {
-        return Headed::Head(Head::Implies);
-    }
-    if k == 4 {
-        return Headed::Head(Head::And);
-    }
-    if k == 5 {
-        return Headed::Head(Head::Or);
-    }
-    if k != 7 {
-        return Headed::Nothing;
-    }
-    if inhabited {
-        return Headed::Head(Head::Equals);
-    }
-    Headed::Nothing
-}
-
-// A declared symbol that stands bare, or after a bracket.
-fn bare_known(known: Known, formula: bool) -> Headed
+// The head that a declared symbol gives: one of no arguments stands bare, and any other after a bracket, where there are terms for it.
+fn known_head(known: Option<Known>, sort: Sort, place: Place, inhabited: bool) -> Option<Head>
     requires { KnownSmall known }
-    ensures { KnownBare known (sort_is formula) result }
+    ensures { KnownAt place known sort inhabited result }
 {
-    let Known::Symbol { number, byte } = known else {
-        return Headed::Nothing;
+    let Known { number, byte } = known?;
+    let arity = arity_in(byte, sort)?;
+    let stands = match place {
+        Place::Bare => arity == 0,
+        Place::Bracketed => arity != 0 && inhabited,
     };
-    let Found::At(arity) = arity_in(byte, formula) else {
-        return Headed::Nothing;
-    };
-    if arity != 0 {
-        return Headed::Nothing;
-    }
-    Headed::Head(Head::Applied {
+    stands.then_some(Head::Applied {
         number,
-        formula,
+        sort,
         arity,
     })
 }
 
-fn bracketed_known(known: Known, formula: bool, inhabited: bool) -> Headed
-    requires { KnownSmall known }
-    ensures { KnownBracketed known (sort_is formula) inhabited result }
+// The head that a name gives at a place: one of Core's, or a declared symbol.
+pub fn head_of(signature: Signature<'_>, name: Name, sort: Sort, place: Place) -> Option<Head>
+    requires { NameWithin signature.text.now name }
+    ensures { let g = signature.entry in Heads (λ sig. named_at place sig (sort_read sort) (symbol (name_of g.text.now name))) g.text.now g.shelf.now g.declared result }
 {
-    let Known::Symbol { number, byte } = known else {
-        return Headed::Nothing;
-    };
-    let Found::At(arity) = arity_in(byte, formula) else {
-        return Headed::Nothing;
-    };
-    if arity == 0 {
-        return Headed::Nothing;
+    let inhabited = signature.declared.inhabited;
+    match core(name.of(signature.text)) {
+        Some(k) => core_head(k, sort, place, inhabited),
+        None => known_head(signature.find(name), sort, place, inhabited),
     }
-    if !inhabited {
-        return Headed::Nothing;
-    }
-    Headed::Head(Head::Applied {
-        number,
-        formula,
-        arity,
-    })
-}
-
-// The head that a name gives bare.
-pub fn bare(text: &[u8], shelf: &[usize], declared: Declared, name: Name, formula: bool) -> Headed
-    requires { DeclaredSound text.now shelf.now declared × NameWithin text.now name }
-    ensures { Heads (λ sig. names.bare sig (sort_is formula) (symbol (name_of text.now name))) text.now shelf.now declared result }
-{
-    let from = name.from;
-    let to = name.to;
-    if let Found::At(k) = core(&text[from..to]) {
-        return bare_core(k, formula);
-    }
-    let known = find(text, shelf, declared, name);
-    bare_known(known, formula)
-}
-
-// The head that a name gives after a bracket.
-pub fn bracketed(
-    text: &[u8],
-    shelf: &[usize],
-    declared: Declared,
-    name: Name,
-    formula: bool,
-) -> Headed
-    requires { DeclaredSound text.now shelf.now declared × NameWithin text.now name }
-    ensures { Heads (λ sig. names.bracketed sig (sort_is formula) (symbol (name_of text.now name))) text.now shelf.now declared result }
-{
-    let from = name.from;
-    let to = name.to;
-    let inhabited = declared.inhabited;
-    if let Found::At(k) = core(&text[from..to]) {
-        return bracketed_core(k, formula, inhabited);
-    }
-    let known = find(text, shelf, declared, name);
-    bracketed_known(known, formula, inhabited)
 }
 
 // How many arguments must come.
@@ -198,19 +102,11 @@ fn least(head: Head) -> usize
     ensures { result ≡ least_of head }
 {
     match head {
-        Head::Applied {
-            number: _,
-            formula: _,
-            arity,
-        } => arity,
-        Head::Choice { formula: _ } => 3,
-        Head::Equals => 2,
+        Head::Applied { arity, .. } => arity,
+        Head::Choice { .. } => 3,
+        Head::Equals | Head::And | Head::Or | Head::Implies => 2,
         Head::Not => 1,
-        Head::And => 2,
-        Head::Or => 2,
-        Head::Implies => 2,
-        Head::True => 0,
-        Head::False => 0,
+        Head::True | Head::False => 0,
     }
 }
 
@@ -218,45 +114,27 @@ fn least(head: Head) -> usize
 pub fn ready(head: Head, seen: usize) -> bool
     ensures { Readies head seen result }
 {
-    let must = least(head);
-    must <= seen
+    least(head) <= seen
 }
 
 // A sort is wanted where fewer than so many arguments are seen.
-fn below(seen: usize, arity: usize, formula: bool) -> Wanted
-    ensures { wanted_read result ≡ wanted_below (sort_is formula) seen arity }
+fn below(seen: usize, arity: usize, sort: Sort) -> Option<Sort>
+    ensures { wanted_read result ≡ wanted_below (sort_read sort) seen arity }
 {
-    if arity <= seen {
-        return Wanted::Nothing;
-    }
-    if formula {
-        return Wanted::Formula;
-    }
-    Wanted::Term
+    (seen < arity).then_some(sort)
 }
 
 // What may come next, after so many arguments; three stand for any more.
-pub fn wants(head: Head, seen: usize) -> Wanted
+pub fn wants(head: Head, seen: usize) -> Option<Sort>
     ensures { Wants head seen result }
 {
     match head {
-        Head::Applied {
-            number: _,
-            formula: _,
-            arity,
-        } => below(seen, arity, false),
-        Head::Choice { formula } => {
-            if seen == 0 {
-                return Wanted::Formula;
-            }
-            below(seen, 3, formula)
-        }
-        Head::Equals => Wanted::Term,
-        Head::Not => below(seen, 1, true),
-        Head::And => Wanted::Formula,
-        Head::Or => Wanted::Formula,
-        Head::Implies => Wanted::Formula,
-        Head::True => Wanted::Nothing,
-        Head::False => Wanted::Nothing,
+        Head::Applied { arity, .. } => below(seen, arity, Sort::Term),
+        Head::Choice { .. } if seen == 0 => Some(Sort::Formula),
+        Head::Choice { sort } => below(seen, 3, sort),
+        Head::Equals => Some(Sort::Term),
+        Head::Not => below(seen, 1, Sort::Formula),
+        Head::And | Head::Or | Head::Implies => Some(Sort::Formula),
+        Head::True | Head::False => None,
     }
 }

@@ -1,96 +1,112 @@
 // The table of nodes under construction: an equal node, or one appended (02, E1: "equal nodes stand once").
-ghost use Rattle.std.specs.Prelude.{◌≡◌, ◌+◌, ◌*◌, ◌<◌, ◌≤◌, length, false};
-ghost use Rattle.std.proofs.Math.Option.{none};
-ghost use Rattle.definitions.specs.Problem.Node.{same, node_at};
+ghost use Rattle.std.specs.Prelude.{◌≡◌, ◌≤◌, Option, List, [], map, length};
+ghost use Rattle.std.specs.Option.{option_map};
+ghost use Rattle.definitions.specs.Problem.Node.{plain, table_bytes};
+ghost use Rattle.definitions.specs.Problem.Node as table;
 ghost use Rattle.definitions.specs.Text.Nodes.{place_of};
-ghost use Rattle.definitions.specs.Text.Nodes as table;
+ghost use Rattle.definitions.specs.Text.Nodes as trees;
+ghost use Rattle.definitions.specs.Operations.Buffers.{over};
 ghost use Rattle.problem.specs.Nodes.{node_read};
+ghost use Rattle.problem.specs.Ops.{byte_of};
 ghost use Rattle.problem.specs.Stages.{found_of};
-ghost use Rattle.terms.specs.Laying.{table_in, NodeSmall, TableFits, Performs};
+ghost use Rattle.terms.specs.Laying.{table_of, FewCounted, standing, Performs, appended};
 
-use problem::bytes::{Found, two_at};
+use problem::ops::Op;
 use problem::put::{Node, put_node};
+use std::marker::Model;
 
-// How many nodes are laid, and whether more would be than a problem may have: then nothing is laid any more.
-#[derive(Clone, Copy)]
-pub struct Laying {
-    pub count: usize,
-    pub over: bool,
+// The nodes that are laid, as many as the count says. There is none once more were asked for than a problem may have: then nothing is
+// laid any more.
+#[derive(Drop)]
+pub struct Table {
+    nodes: [Node; 256],
+    count: Option<usize>,
 }
 
-// A node's number, and the laying after it.
-#[derive(Clone, Copy)]
-pub struct Asked {
-    pub number: usize,
-    pub laying: Laying,
+impl Model for Table {
+    ghost Value = { Option (List table.Node) };
+
+    ghost view = { λ t. table_of t.nodes t.count };
+
+    ghost invariant = { λ t. (length t.nodes ≡ 256) × FewCounted t.count };
 }
 
-fn same_node(nodes: &[u8], at: usize, node: Node) -> bool
-    requires { at + 8 ≤ length nodes.now }
-    ensures { result ≡ same (node_read node) (node_at nodes.now at) }
+// The number of the first of some nodes that is equal.
+fn find(nodes: &[Node], node: Node) -> Option<usize>
+    ensures { found_of result ≡ place_of (node_read node) (map node_read nodes.now) }
 {
-    if node.op != nodes[at] {
-        return false;
-    }
-    if node.symbol != nodes[at + 1] {
-        return false;
-    }
-    if node.a != two_at(nodes, at + 2) {
-        return false;
-    }
-    if node.b != two_at(nodes, at + 4) {
-        return false;
-    }
-    node.c == two_at(nodes, at + 6)
+    nodes.iter().position(|other| node == *other)
 }
 
-// The number of the node in the table that is equal.
-fn find(nodes: &[u8], count: usize, node: Node) -> Found
-    requires { TableFits nodes.now count }
-    ensures { found_of result ≡ place_of (node_read node) (table_in nodes.now count) }
-{
-    let mut i = 0;
-    while i < count {
-        if same_node(nodes, 8 * i, node) {
-            return Found::At(i);
+impl Table {
+    pub fn new() -> Self
+        ensures { result ≡ Some [] }
+    {
+        Table {
+            nodes: [Node::plain(Op::Unknown, 0, 0, 0); 256],
+            count: Some(0),
         }
-        i += 1;
     }
-    Found::Nothing
-}
 
-fn append(nodes: &mut [u8], count: usize, node: Node) -> Asked
-    requires { TableFits nodes.old count × NodeSmall node × (place_of (node_read node) (table_in nodes.old count) ≡ none) }
-    ensures { Performs (table.ask (node_read node)) nodes.old (record { count = count; over = false }) result nodes.new }
-{
-    if count == 256 {
-        return Asked {
-            number: 0,
-            laying: Laying { count, over: true },
+    // How many nodes are laid, where there is room for all.
+    pub fn count(&self) -> Option<usize>
+        ensures counts { result ≡ option_map length self.now }
+        ensures few { FewCounted result }
+    {
+        self.count
+    }
+
+    // More is asked for than a problem may have.
+    pub fn give_up(&mut self)
+        ensures { self.new ≡ None }
+    {
+        self.count = None;
+    }
+
+    // A node behind the others: its number, which says nothing where there is no room for the node.
+    pub fn append(&mut self, node: Node) -> u8
+        ensures { Performs (appended (node_read node)) self.old result self.new }
+    {
+        let Some(count) = self.count else {
+            return 0;
         };
+        if count == 256 {
+            self.count = None;
+            return 0;
+        }
+        self.nodes[count] = node;
+        self.count = Some(count + 1);
+        count as u8
     }
-    let at = 8 * count;
-    put_node(&mut nodes[at..], node);
-    Asked {
-        number: count,
-        laying: Laying {
-            count: count + 1,
-            over: false,
-        },
-    }
-}
 
-// The number of an equal node, or of the node appended.
-pub fn ask(nodes: &mut [u8], laying: Laying, node: Node) -> Asked
-    requires { TableFits nodes.old laying.count × NodeSmall node }
-    ensures { Performs (table.ask (node_read node)) nodes.old laying result nodes.new }
-{
-    if laying.over {
-        return Asked { number: 0, laying };
+    // The number of an equal node, or of the node appended; it says nothing where there is no room.
+    pub fn ask(&mut self, node: Node) -> u8
+        ensures { Performs (trees.ask (node_read node)) self.old result self.new }
+    {
+        let Some(count) = self.count else {
+            return 0;
+        };
+        match find(&self.nodes[..count], node) {
+            Some(number) => number as u8,
+            None => self.append(node),
+        }
     }
-    let count = laying.count;
-    match find(nodes, count, node) {
-        Found::At(number) => Asked { number, laying },
-        Found::Nothing => append(nodes, count, node),
+
+    // A node of an op over two numbers.
+    pub fn pair(&mut self, op: Op, a: u8, b: u8) -> u8
+        ensures { Performs (trees.ask (plain (byte_of op) a b 0)) self.old result self.new }
+    {
+        self.ask(Node::plain(op, u16::from(a), u16::from(b), 0))
+    }
+
+    // The nodes' bytes go to the start of a lent tail.
+    pub fn put(&self, tail: &mut [u8])
+        requires { 2048 ≤ length tail.old }
+        ensures { tail.new ≡ over (table_bytes (standing self.now)) tail.old }
+    {
+        let count = self.count.unwrap_or(0);
+        for (k, node) in self.nodes[..count].iter().enumerate() {
+            put_node(&mut tail[8 * k..], *node);
+        }
     }
 }

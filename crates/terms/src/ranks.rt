@@ -1,10 +1,14 @@
 // A declared symbol's rank: its arguments, at most three of the sort, and its result, the sort or Bool.
-ghost use Rattle.std.specs.Prelude.{◌≤◌, length};
+ghost use Rattle.std.specs.Prelude.{◌≡◌, ◌≤◌, length};
+ghost use Rattle.definitions.specs.Text.Nodes.{byte_of};
+ghost use Rattle.problem.specs.Wanted.{sort_read};
 ghost use Rattle.terms.specs.Lexing.{NameWithin, name_of, LexemeFits};
 ghost use Rattle.terms.specs.Ranks.{PartIs, ReadsArity, ReadsResult};
 
-use crate::bytes::same;
+use crate::declarations::Counted;
+use crate::exact::{Due, WrongToken, exact};
 use crate::tokens::{Lexeme, Name, next};
+use problem::ops::Sort;
 
 // A token where a sort may stand.
 #[derive(Clone, Copy)]
@@ -15,89 +19,77 @@ enum Part {
     Other,
 }
 
-// So many arguments, and the offset behind their closing bracket; or the place of a token that will not do.
+// The sort of the result, and the offset behind it.
 #[derive(Clone, Copy)]
-pub enum Arity {
-    Counted { arity: usize, at: usize },
-    Wrong(usize),
+pub struct Given {
+    pub result: Sort,
+    pub at: usize,
 }
 
-// The result, and the offset behind it; or the place of a token that will not do.
-#[derive(Clone, Copy)]
-pub enum Given {
-    Result { formula: bool, at: usize },
-    Wrong(usize),
+// A symbol's byte in the problem: its arity, and 16 more where its result is Bool.
+pub fn byte_of(arity: usize, given: Sort) -> usize
+    requires { arity ≤ 3 }
+    ensures { result ≡ byte_of arity (sort_read given) }
+{
+    match given {
+        Sort::Term => arity,
+        Sort::Formula => 16 + arity,
+    }
 }
 
+#[tactic(auto, using(crate::proofs::SameLaws::names))]
 fn part_of(text: &[u8], lexeme: Lexeme, sort: Name) -> Part
     requires { LexemeFits text.now lexeme × NameWithin text.now sort }
     ensures { PartIs text.now lexeme (name_of text.now sort) result }
 {
     match lexeme {
         Lexeme::Closing => Part::Closing,
-        Lexeme::Symbol(name) => {
-            let from = name.from;
-            let to = name.to;
-            let sort_from = sort.from;
-            let sort_to = sort.to;
-            if same(&text[from..to], &text[sort_from..sort_to]) {
-                return Part::Sort;
-            }
-            if same(&text[from..to], b"Bool") {
-                return Part::Bool;
-            }
-            Part::Other
-        }
+        Lexeme::Symbol(name) if name.of(text) == sort.of(text) => Part::Sort,
+        Lexeme::Symbol(name) if name.of(text) == b"Bool".as_slice() => Part::Bool,
         _ => Part::Other,
     }
 }
 
-// The arguments after their opening bracket.
-pub fn read_arity(text: &[u8], from: usize, sort: Name) -> Arity
+// The arguments after their opening bracket; after three only the closing bracket will do.
+pub fn read_arity(text: &[u8], from: usize, sort: Name) -> Result<Counted, WrongToken>
     requires { (from ≤ length text.now) × NameWithin text.now sort }
     ensures { ReadsArity text.now from (name_of text.now sort) result }
 {
     let mut at = from;
-    let mut arity = 0;
-    loop {
+    for arity in 0..3 {
         let token = next(text, at);
-        let lexeme = token.lexeme;
-        match part_of(text, lexeme, sort) {
+        match part_of(text, token.lexeme, sort) {
             Part::Closing => {
-                return Arity::Counted {
+                return Ok(Counted {
                     arity,
-                    at: token.next,
-                };
+                    next: token.next,
+                });
             }
-            Part::Sort => {
-                if arity == 3 {
-                    return Arity::Wrong(token.place);
-                }
-                arity += 1;
-                at = token.next;
-            }
-            Part::Bool | Part::Other => {
-                return Arity::Wrong(token.place);
-            }
+            Part::Sort => at = token.next,
+            Part::Bool | Part::Other => return Err(WrongToken(token.place)),
         }
     }
+    let closed = exact(text, at, Due::Closing)?;
+    Ok(Counted {
+        arity: 3,
+        next: closed,
+    })
 }
 
-pub fn read_result(text: &[u8], at: usize, sort: Name) -> Given
+pub fn read_result(text: &[u8], at: usize, sort: Name) -> Result<Given, WrongToken>
     requires { (at ≤ length text.now) × NameWithin text.now sort }
     ensures { ReadsResult text.now at (name_of text.now sort) result }
 {
     let token = next(text, at);
-    let lexeme = token.lexeme;
-    match part_of(text, lexeme, sort) {
-        Part::Sort => Given::Result {
-            formula: false,
+    match part_of(text, token.lexeme, sort) {
+        Part::Sort => Ok(Given {
+            result: Sort::Term,
             at: token.next,
-        },
-        Part::Bool => Given::Result {
-            formula: true,
+        }),
+        Part::Bool => Ok(Given {
+            result: Sort::Formula,
             at: token.next,
-        },
-        Part::Closing | Part::Other => Given::Wrong(token.place),
+        }),
+        Part::Closing | Part::Other => Err(WrongToken(token.place)),
     }
 }

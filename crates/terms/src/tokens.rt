@@ -1,20 +1,29 @@
 // From the bytes of a text to its tokens, one at a time (02, E1; docs/TEXT.md, 'Tokens').
 ghost use Rattle.std.specs.Prelude.{◌≡◌, ◌<◌, ◌≤◌, true, length, get_or, drop};
 ghost use Rattle.definitions.specs.Text.Tokens.{word_byte, run};
-ghost use Rattle.terms.specs.Lexing.{CommentTo, BlankTo, RunsTo, BarredTo, numeral_read, bracket_read, TokenIs, Lexed};
+ghost use Rattle.terms.specs.Lexing.{BlankTo, RunsTo, BarredTo, numeral_read, bracket_read, TokenIs, Lexed, NameWithin, name_of};
 
-use crate::bytes::{bar_byte, is_digit, line_break, same, white, word_byte};
+use crate::bytes::{bar_byte, is_digit, line_break, white, word_byte};
 use crate::words::reserved;
-use problem::bytes::Found;
 
 // A name's bytes, bars left out, by their offsets in the text.
-#[derive(Clone, Copy)]
+#[derive(Clone, Copy, PartialEq, Eq)]
 pub struct Name {
     pub from: usize,
     pub to: usize,
 }
 
-#[derive(Clone, Copy)]
+impl Name {
+    // The bytes of the name in its text.
+    pub fn of(self, text: &[u8]) -> &[u8]
+        requires { NameWithin text.now self }
+        ensures { result.now ≡ name_of text.now self }
+    {
+        &text[self.from..self.to]
+    }
+}
+
+#[derive(Clone, Copy, PartialEq, Eq)]
 pub enum Lexeme {
     End,
     Opening,
@@ -33,39 +42,23 @@ pub struct Token {
     pub next: usize,
 }
 
-// Where the gap goes on after a comment: past a line break, or at the end of the text.
-fn comment_end(text: &[u8], from: usize) -> usize
-    requires { from ≤ length text.now }
-    ensures { CommentTo text.now from result }
-{
-    let mut at = from;
-    while at < text.len() {
-        if line_break(text[at]) {
-            return at + 1;
-        }
-        at += 1;
-    }
-    at
-}
-
-// Where white space and comments end.
+// Where white space and comments end; a comment runs to a line break, or to the end of the text.
 fn blank_end(text: &[u8], from: usize) -> usize
     requires { from ≤ length text.now }
     ensures { BlankTo text.now from result }
 {
-    let mut at = from;
-    while at < text.len() {
+    let mut comment = false;
+    for at in from..text.len() {
         let b = text[at];
-        if white(b) {
-            at += 1;
-            continue;
-        }
-        if b != b';' {
+        if comment {
+            comment = !line_break(b);
+        } else if b == b';' {
+            comment = true;
+        } else if !white(b) {
             return at;
         }
-        at = comment_end(text, at + 1);
     }
-    at
+    text.len()
 }
 
 // Where the longest run of word bytes ends.
@@ -73,33 +66,29 @@ fn word_end(text: &[u8], from: usize) -> usize
     requires { from ≤ length text.now }
     ensures { RunsTo text.now from (run (drop from text.now)) result }
 {
-    let mut at = from;
-    while at < text.len() {
+    for at in from..text.len() {
         if !word_byte(text[at]) {
             return at;
         }
-        at += 1;
     }
-    at
+    text.len()
 }
 
 // Where the closing bar stands, if the bars are closed and hold no other byte.
-fn bar_end(text: &[u8], from: usize) -> Found
+fn bar_end(text: &[u8], from: usize) -> Option<usize>
     requires { from ≤ length text.now }
     ensures { BarredTo text.now from result }
 {
-    let mut at = from;
-    while at < text.len() {
+    for at in from..text.len() {
         let b = text[at];
         if b == b'|' {
-            return Found::At(at);
+            return Some(at);
         }
         if !bar_byte(b) {
-            return Found::Nothing;
+            return None;
         }
-        at += 1;
     }
-    Found::Nothing
+    None
 }
 
 // A word: a numeral is a token only if it is exactly 0, and a reserved word is no symbol.
@@ -108,39 +97,33 @@ fn word_token(text: &[u8], place: usize) -> Token
     ensures { TokenIs text.now place result }
 {
     let next = word_end(text, place);
-    if is_digit(text[place]) {
-        let lexeme = numeral(&text[place..next]);
-        return Token {
-            lexeme,
-            place,
-            next,
-        };
-    }
     let name = Name {
         from: place,
         to: next,
     };
-    if reserved(&text[place..next]) {
-        return Token {
-            lexeme: Lexeme::Word(name),
-            place,
-            next,
-        };
-    }
+    let lexeme = if is_digit(text[place]) {
+        numeral(name.of(text))
+    } else if reserved(name.of(text)) {
+        Lexeme::Word(name)
+    } else {
+        Lexeme::Symbol(name)
+    };
     Token {
-        lexeme: Lexeme::Symbol(name),
+        lexeme,
         place,
         next,
     }
 }
 
+#[tactic(auto, using(crate::proofs::SameLaws::names))]
 fn numeral(digits: &[u8]) -> Lexeme
     ensures { result ≡ numeral_read digits.now }
 {
-    if same(digits, b"0") {
-        return Lexeme::Nought;
+    if digits == b"0".as_slice() {
+        Lexeme::Nought
+    } else {
+        Lexeme::Wrong
     }
-    Lexeme::Wrong
 }
 
 // A symbol in bars; bars that are not closed, or hold another byte, are refused at the opening bar.
@@ -150,12 +133,12 @@ fn bar_token(text: &[u8], place: usize) -> Token
 {
     let from = place + 1;
     match bar_end(text, from) {
-        Found::At(to) => Token {
+        Some(to) => Token {
             lexeme: Lexeme::Symbol(Name { from, to }),
             place,
             next: to + 1,
         },
-        Found::Nothing => Token {
+        None => Token {
             lexeme: Lexeme::Wrong,
             place,
             next: from,
@@ -167,13 +150,11 @@ fn bar_token(text: &[u8], place: usize) -> Token
 fn byte_token(b: u8) -> Lexeme
     ensures { result ≡ bracket_read b }
 {
-    if b == b'(' {
-        return Lexeme::Opening;
+    match b {
+        b'(' => Lexeme::Opening,
+        b')' => Lexeme::Closing,
+        _ => Lexeme::Wrong,
     }
-    if b == b')' {
-        return Lexeme::Closing;
-    }
-    Lexeme::Wrong
 }
 
 // The first token from an offset on.

@@ -1,104 +1,87 @@
 // The words that a name must not be: the reserved words of SMT-LIB 2.6, and the names that its Core theory has already.
-ghost use Rattle.std.specs.Prelude.{◌≡◌, not};
+ghost use Rattle.std.specs.Prelude.{◌≡◌, not, position, bytes_eq};
 ghost use Rattle.definitions.specs.Lists.{any, first_failing};
 ghost use Rattle.definitions.specs.Text.Ascii.{same_bytes};
-ghost use Rattle.definitions.specs.Text.Tokens.{RESERVED};
-ghost use Rattle.definitions.specs.Text.Grammar.{CORE};
+ghost use Rattle.definitions.specs.Text.Tokens as tokens;
+ghost use Rattle.definitions.specs.Text.Grammar as grammar;
 ghost use Rattle.problem.specs.Stages.{found_of};
-ghost use Rattle.terms.specs.Words.{RowsFit, rows_in};
 
-use crate::bytes::same;
-use problem::bytes::{Found, wide};
+// In the order of the standard's list, the commands last.
+const RESERVED: [&[u8]; 43] = [
+    b"!",
+    b"_",
+    b"as",
+    b"BINARY",
+    b"DECIMAL",
+    b"exists",
+    b"HEXADECIMAL",
+    b"forall",
+    b"let",
+    b"match",
+    b"NUMERAL",
+    b"par",
+    b"STRING",
+    b"assert",
+    b"check-sat",
+    b"check-sat-assuming",
+    b"declare-const",
+    b"declare-datatype",
+    b"declare-datatypes",
+    b"declare-fun",
+    b"declare-sort",
+    b"define-fun",
+    b"define-fun-rec",
+    b"define-funs-rec",
+    b"define-sort",
+    b"echo",
+    b"exit",
+    b"get-assertions",
+    b"get-assignment",
+    b"get-info",
+    b"get-model",
+    b"get-option",
+    b"get-proof",
+    b"get-unsat-assumptions",
+    b"get-unsat-core",
+    b"get-value",
+    b"pop",
+    b"push",
+    b"reset",
+    b"reset-assertions",
+    b"set-info",
+    b"set-logic",
+    b"set-option",
+];
 
-// A row has a name's length in its first byte, then the name, then spaces.
-// They stand in the order of the standard's list, the commands last.
-const RESERVED_ROWS: [u8; 946] = *b"\
-    \x01!                    \
-    \x01_                    \
-    \x02as                   \
-    \x06BINARY               \
-    \x07DECIMAL              \
-    \x06exists               \
-    \x0bHEXADECIMAL          \
-    \x06forall               \
-    \x03let                  \
-    \x05match                \
-    \x07NUMERAL              \
-    \x03par                  \
-    \x06STRING               \
-    \x06assert               \
-    \x09check-sat            \
-    \x12check-sat-assuming   \
-    \x0ddeclare-const        \
-    \x10declare-datatype     \
-    \x11declare-datatypes    \
-    \x0bdeclare-fun          \
-    \x0cdeclare-sort         \
-    \x0adefine-fun           \
-    \x0edefine-fun-rec       \
-    \x0fdefine-funs-rec      \
-    \x0bdefine-sort          \
-    \x04echo                 \
-    \x04exit                 \
-    \x0eget-assertions       \
-    \x0eget-assignment       \
-    \x08get-info             \
-    \x09get-model            \
-    \x0aget-option           \
-    \x09get-proof            \
-    \x15get-unsat-assumptions\
-    \x0eget-unsat-core       \
-    \x09get-value            \
-    \x03pop                  \
-    \x04push                 \
-    \x05reset                \
-    \x10reset-assertions     \
-    \x08set-info             \
-    \x09set-logic            \
-    \x0aset-option           ";
+const CORE: [&[u8]; 10] = [
+    b"true",
+    b"false",
+    b"not",
+    b"=>",
+    b"and",
+    b"or",
+    b"xor",
+    b"=",
+    b"distinct",
+    b"ite",
+];
 
-const CORE_ROWS: [u8; 220] = *b"\
-    \x04true                 \
-    \x05false                \
-    \x03not                  \
-    \x02=>                   \
-    \x03and                  \
-    \x02or                   \
-    \x03xor                  \
-    \x01=                    \
-    \x08distinct             \
-    \x03ite                  ";
-
-// The number of the first row that holds a name.
-fn row_of(name: &[u8], table: &[u8], rows: usize) -> Found
-    requires { RowsFit table.now rows }
-    ensures { found_of result ≡ first_failing (λ row. not (same_bytes name.now row)) 0 (rows_in rows table.now) }
+// The place of a name in a table.
+fn place_in(rows: &[&[u8]], name: &[u8]) -> Option<usize>
+    ensures { result ≡ position (λ row. bytes_eq row.now name.now) rows.now }
 {
-    let mut i = 0;
-    while i < rows {
-        let from = 22 * i + 1;
-        let to = from + wide(table[22 * i]);
-        if same(name, &table[from..to]) {
-            return Found::At(i);
-        }
-        i += 1;
-    }
-    Found::Nothing
+    rows.iter().position(|row| *row == name)
 }
 
 pub fn reserved(name: &[u8]) -> bool
-    ensures { result ≡ any (same_bytes name.now) RESERVED }
+    ensures { result ≡ any (same_bytes name.now) tokens.RESERVED }
 {
-    if let Found::Nothing = row_of(name, &RESERVED_ROWS, 43) {
-        false
-    } else {
-        true
-    }
+    place_in(&RESERVED, name).is_some()
 }
 
 // Which of Core's names a name is.
-pub fn core(name: &[u8]) -> Found
-    ensures { found_of result ≡ first_failing (λ row. not (same_bytes name.now row)) 0 CORE }
+pub fn core(name: &[u8]) -> Option<usize>
+    ensures { found_of result ≡ first_failing (λ row. not (same_bytes name.now row)) 0 grammar.CORE }
 {
-    row_of(name, &CORE_ROWS, 10)
+    place_in(&CORE, name)
 }

@@ -1,19 +1,23 @@
 -- Behind check-sat's bracket no token may come (02, E1: "check-sat last"). Assumes nothing.
-use mathlib.Core.Path.{◌≡◌, refl}
+use mathlib.Core.Path.{◌≡◌, refl, ap}
 use Prim.Native.Nat.{ℕ}
-use mathlib.Core.List.{List, [], ◌∷◌}
-use mathlib.Core.Option.{none, some}
-use Rattle.definitions.specs.Text.Tokens.{opening, closing, nought, wrong, symbol, word}
+use native.Mathlib.Omega.{arith}
+use mathlib.Core.List.{List}
+use mathlib.Core.Option.{none}
+use Rattle.std.specs.Prelude.{Result}
+use Rattle.definitions.specs.Operations.Answers.{given}
+use Rattle.definitions.specs.Text.Tokens.{closing}
 use Rattle.definitions.specs.Text.Tokens as tokens
 use Rattle.definitions.specs.Text.Grammar.{Command}
-use Rattle.definitions.specs.Text.Reader.{State, finished, step}
-use Rattle.terms.specs.Lexing.{name_of, lexeme_read, Lexed}
-use Rattle.terms.specs.Reading.{Reached, WrongAt}
+use Rattle.definitions.specs.Text.Reader.{State, finished, step, script_read}
+use Rattle.terms.specs.Lexing.{lexeme_read, Lexed}
+use Rattle.terms.specs.Reading.{Reached, WrongAt, Exactly, ReachedBy}
+use Rattle.terms.specs.declared.exact.WrongToken.{WrongToken}
 use Rattle.terms.specs.declared.tokens.Token.{Token}
 use Rattle.terms.specs.declared.tokens.Lexeme.{Lexeme}
-use Rattle.terms.proofs.LexemeLaws.{tag_of}
-use Rattle.terms.proofs.ReachLaws.{stuck}
-use types.Run.{OneOf, miss}
+use Rattle.terms.proofs.OtherLexemes.{some_token}
+use Rattle.terms.proofs.ReachLaws.{stuck, finishes, exactly_on}
+use Rattle.text.specs.Commands.{in_checking}
 
 -- check-sat is read
 abbrev pub in_finished : List ℕ → List Command → State
@@ -23,18 +27,13 @@ none_taken : (sn : List ℕ) (cs : List Command) (x : tokens.Token) → step (in
 unfolding step
 none_taken sn cs x = refl
 
--- a token other than the end of the text
-follows : (text : List ℕ) (l : Lexeme) → OneOf (1 ∷ 2 ∷ 3 ∷ 4 ∷ 5 ∷ 6 ∷ []) (tag_of l) → (x : tokens.Token) × (lexeme_read text l ≡ some x)
-follows text Lexeme.End o = absurd (miss (1 ∷ 2 ∷ 3 ∷ 4 ∷ 5 ∷ 6 ∷ []) 0 tt o)
-follows text Lexeme.Opening o = (opening, refl)
-follows text Lexeme.Closing o = (closing, refl)
-follows text Lexeme.Nought o = (nought, refl)
-follows text Lexeme.Wrong o = (wrong, refl)
-follows text (Lexeme.Symbol n) o = (symbol (name_of text n), refl)
-follows text (Lexeme.Word n) o = (word (name_of text n), refl)
+module _ (text sn : List ℕ) (cs : List Command) (at : ℕ) where
+  pub check_closes : (r : Result ℕ WrongToken) → Exactly text at closing r → Reached text (in_checking sn cs) at → ReachedBy text (in_finished sn cs) r
+  check_closes r e reached = exactly_on text (in_checking sn cs) at closing finished r (omega arith) e reached
 
-pub something_follows : (text sn : List ℕ) (cs : List Command) (at : ℕ) → Reached text (in_finished sn cs) at → (t : Token) → Lexed text at t
-    → OneOf (1 ∷ 2 ∷ 3 ∷ 4 ∷ 5 ∷ 6 ∷ []) (tag_of t.lexeme) → WrongAt text t.place
-something_follows text sn cs at r t l o =
-    let (x, e) = follows text t.lexeme o in
-    stuck text (in_finished sn cs) at r t l x e (none_taken sn cs x)
+  module _ (r : Reached text (in_finished sn cs) at) (t : Token) (l : Lexed text at t) where
+    pub nothing_follows : t.lexeme ≡ Lexeme.End → script_read text ≡ given (record { sort_name = sn; commands = cs })
+    nothing_follows e = finishes text (in_finished sn cs) at r t l (ap (lexeme_read text) e) refl
+
+    pub something_follows : (t.lexeme ≡ Lexeme.End → ⊥) → WrongAt text t.place
+    something_follows h = let (x, e) = some_token text t.lexeme h in stuck text (in_finished sn cs) at r t l x e (none_taken sn cs x)

@@ -3,10 +3,11 @@
 use mathlib.Core.Path.{◌≡◌, refl, sym, ap, ◌∙◌}
 use Prim.Native.Nat.{ℕ, ◌≤◌, ◌<◌}
 use native.Mathlib.Omega.{arith}
-use mathlib.Core.Bool.{Bool, false, false≢true}
+use mathlib.Core.Bool.{Bool, false≢true}
 use mathlib.Core.List.{List, []}
 use lib.ListN.{length}
 use borrow.Author.Tests.{lt-ltb, le-ltb}
+use Rattle.std.specs.Prelude.{Err}
 use Rattle.definitions.specs.Problem.Check.{refuse_if}
 use Rattle.definitions.specs.Operations.Answers.{Answer, refused}
 use Rattle.definitions.specs.Operations.Readings.{refusal_read}
@@ -15,38 +16,22 @@ use Rattle.definitions.specs.Text.Grammar.{Script}
 use Rattle.definitions.specs.Text.Reader.{script_read}
 use Rattle.definitions.specs.Text.Nodes.{if_room, within_limits, taken, length_read, buffer_read, read_answer, read_buffer}
 use Rattle.definitions.specs.declared.Refusal.{Refusal}
-use Rattle.definitions.specs.declared.Reading.{Reading}
 use Rattle.terms.specs.Terms.{RefusedBy}
-use Rattle.terms.specs.declared.tokens.Name.{Name}
+use Rattle.terms.specs.declared.declared.Shelved.{Shelved}
+use Rattle.terms.specs.declared.prologue.Named.{Named}
 use Rattle.text.specs.Readable.{Readable}
-use Rattle.text.specs.Scripted.{Scripted}
-use Rattle.text.specs.declared.scripts.Script as code
+use Rattle.text.specs.Scripted.{Scripted, first_script}
 
--- nothing is declared, nothing is laid
-abbrev pub first_script : Name → ℕ → code.Script
-first_script sort at =
-    record {
-      declared = record { count = 0; command = at; sort = sort; inhabited = false };
-      asserts = 0;
-      laying = record { count = 0; over = false };
-    }
-
-pub first_scripted : {text problem : List ℕ} {sort : Name} {at : ℕ} → Readable text problem sort at
-    → (shelf symbols nodes roots : List ℕ) → length symbols ≡ 32 → length nodes ≡ 2048 → length roots ≡ 256
-    → Scripted text shelf symbols nodes roots (first_script sort at)
-first_scripted r shelf symbols nodes roots p q u =
+pub first_scripted : {text problem : List ℕ} {n : Named} → Readable text problem n → (shelf : List Shelved) → Scripted text shelf (first_script n)
+first_scripted r shelf =
     record {
       sound = record {
         declared_sound = record {
-          sound = record { onward = λ i o. absurd (omega (arith, o.0)); inside = λ i o. absurd (omega (arith, o.0)); small = λ i o. absurd (omega (arith, o.0)) };
+          sound = record { inside = λ i o. absurd (omega (arith, o.0)); small = λ i o. absurd (omega (arith, o.0)) };
           command_inside = r.inside;
           sort_inside = r.named;
         };
         count_few = omega arith;
-        table_fits = record { long = q; few = omega arith };
-        asserts_few = omega arith;
-        symbols_long = p;
-        roots_long = u;
       };
       commands = [];
       so = record {
@@ -59,26 +44,25 @@ first_scripted r shelf symbols nodes roots p q u =
         bytes_so = λ _. refl;
         table_so = λ _. refl;
         roots_so = λ _. refl;
-        asserts_so = λ _. refl;
         over_so = λ e. absurd (false≢true e);
       };
     }
 
 module _ (text problem : List ℕ) (refusal : Refusal) where
   -- a refusal writes nothing
-  by_refusal : taken text (length problem) ≡ refused (refusal_read refusal) → ReadPromise text problem (Reading.Refused refusal) problem
+  by_refusal : taken text (length problem) ≡ refused (refusal_read refusal) → ReadPromise text problem (Err refusal) problem
   unfolding read_answer read_buffer
   by_refusal e =
       record { answers = sym (ap length_read e); problem_after = sym (ap (λ (x : Answer Script). buffer_read x problem) e) }
 
-  pub refused_promised : 2088 ≤ length problem → RefusedBy text refusal → ReadPromise text problem (Reading.Refused refusal) problem
+  pub refused_promised : 2088 ≤ length problem → RefusedBy text refusal → ReadPromise text problem (Err refusal) problem
   unfolding taken
   refused_promised room e =
       by_refusal
       (ap (λ (b : Bool). if_room (refuse_if b 23) (within_limits (script_read text))) (le-ltb (length problem) 2088 room) ∙ ap within_limits e)
 
 -- 23 comes first
-pub short_promised : (text problem : List ℕ) → length problem < 2088 → ReadPromise text problem (Reading.Refused Refusal.ShortProblem) problem
+pub short_promised : (text problem : List ℕ) → length problem < 2088 → ReadPromise text problem (Err Refusal.ShortProblem) problem
 unfolding taken
 short_promised text problem h =
     by_refusal text problem Refusal.ShortProblem

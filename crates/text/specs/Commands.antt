@@ -1,6 +1,6 @@
 -- Which command comes, and what that says of the text read so far (02, E1: "declare-fun .. and assert in any mix, check-sat last").
 -- Assumes nothing.
-use Rattle.std.specs.Prelude.{ℕ, ◌≤◌, ◌<◌, true, false, List, [], length}
+use Rattle.std.specs.Prelude.{ℕ, ◌≤◌, ◌<◌, true, false, List, [], length, Option, None, Some, Result, Ok, Err}
 use Rattle.definitions.specs.Text.Ascii.{ascii, same_bytes}
 use Rattle.definitions.specs.Text.Tokens.{closing}
 use Rattle.definitions.specs.Text.Grammar.{end, one_formula}
@@ -10,17 +10,19 @@ use Rattle.terms.specs.Reading.{Reached, WrongAt}
 use Rattle.terms.specs.Symbols.{at_command}
 use Rattle.terms.specs.Functions.{in_declaring}
 use Rattle.terms.specs.Terms.{in_list}
+use Rattle.terms.specs.declared.exact.WrongToken.{WrongToken}
 use Rattle.text.specs.declared.commands.Command.{Command}
+use Rattle.text.specs.declared.commands.Begun.{Begun}
 
 -- the command of a word
-abbrev pub command_of : List ℕ → ℕ → ℕ → Command
-command_of name place behind =
+abbrev pub command_of : List ℕ → Option Command
+command_of name =
     elim (same_bytes name (ascii "declare-fun")) [
-      | true ↦ Command.Declare behind
+      | true ↦ Some Command.Declare
       | false ↦
           elim (same_bytes name (ascii "assert")) [
-            | true ↦ Command.Assert behind
-            | false ↦ elim (same_bytes name (ascii "check-sat")) [ true ↦ Command.Check behind | false ↦ Command.Wrong place ]
+            | true ↦ Some Command.Assert
+            | false ↦ elim (same_bytes name (ascii "check-sat")) [ true ↦ Some Command.Check | false ↦ None ]
           ]
     ]
 
@@ -28,19 +30,21 @@ command_of name place behind =
 abbrev pub in_checking : List ℕ → List grammar.Command → State
 in_checking sn cs = record { sort_name = sn; commands = cs; stage = exact closing finished }
 
-abbrev pub CommandIs : List ℕ → List ℕ → List grammar.Command → Command → Type 0
-CommandIs text sn cs (Command.Declare at) = Reached text (in_declaring sn cs) at
-CommandIs text sn cs (Command.Assert at) = Reached text (in_list sn cs one_formula end []) at
-CommandIs text sn cs (Command.Check at) = Reached text (in_checking sn cs) at
-CommandIs text sn cs (Command.Wrong place) = WrongAt text place
+-- after a command's word
+abbrev pub behind : List ℕ → List grammar.Command → Command → State
+behind sn cs Command.Declare = in_declaring sn cs
+behind sn cs Command.Assert = in_list sn cs one_formula end []
+behind sn cs Command.Check = in_checking sn cs
+
+abbrev pub CommandIs : List ℕ → List ℕ → List grammar.Command → Result Begun WrongToken → Type 0
+CommandIs text sn cs (Ok b) = Reached text (behind sn cs b.command) b.at
+CommandIs text sn cs (Err w) = WrongAt text w.0
 
 -- whatever is read, the offset behind the word lies further on, within the text
-abbrev pub CommandSound : List ℕ → ℕ → Command → Type 0
-CommandSound text from (Command.Declare at) = (from < at) × (at ≤ length text)
-CommandSound text from (Command.Assert at) = (from < at) × (at ≤ length text)
-CommandSound text from (Command.Check at) = (from < at) × (at ≤ length text)
-CommandSound text from (Command.Wrong place) = Unit {0}
+abbrev pub CommandSound : List ℕ → ℕ → Result Begun WrongToken → Type 0
+CommandSound text from (Ok b) = (from < b.at) × (b.at ≤ length text)
+CommandSound text from (Err w) = Unit {0}
 
-pub record ReadsCommand (text : List ℕ) (from : ℕ) (r : Command) : Type 0 where
+pub record ReadsCommand (text : List ℕ) (from : ℕ) (r : Result Begun WrongToken) : Type 0 where
   pub sound : CommandSound text from r
   pub says : (sn : List ℕ) (cs : List grammar.Command) → Reached text (at_command sn cs) from → CommandIs text sn cs r

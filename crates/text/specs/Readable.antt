@@ -3,10 +3,10 @@ use Rattle.std.specs.Prelude.{ℕ, ◌≤◌, List, [], length}
 use Rattle.terms.specs.Lexing.{name_of, NameWithin}
 use Rattle.terms.specs.Reading.{Reached}
 use Rattle.terms.specs.Symbols.{at_command}
-use Rattle.terms.specs.declared.tokens.Name.{Name}
+use Rattle.terms.specs.declared.prologue.Named.{Named}
 
-pub record Readable (text problem : List ℕ) (sort : Name) (at : ℕ) : Type 0 where
+pub record Readable (text problem : List ℕ) (n : Named) : Type 0 where
   pub room : 2088 ≤ length problem
-  pub reached : Reached text (at_command (name_of text sort) []) at
-  pub named : NameWithin text sort
-  pub inside : at ≤ length text
+  pub reached : Reached text (at_command (name_of text n.name) []) n.at
+  pub named : NameWithin text n.name
+  pub inside : n.at ≤ length text

@@ -1,47 +1,22 @@
 // An assert: its term, and the bracket that closes it.
-ghost use Rattle.std.specs.Prelude.{◌≤◌, length};
-ghost use Rattle.terms.specs.Symbols.{DeclaredSound};
-ghost use Rattle.terms.specs.Laying.{TableFits};
-ghost use Rattle.text.specs.Asserting.{KeepAsked, Keeps, AssertAsked, ReadsAssert};
+ghost use Rattle.text.specs.Scripted.{Inside, WentOn};
+ghost use Rattle.text.specs.Asserting.{Keeps, in_asserting};
 
-use crate::scripts::{Script, Went};
+use crate::scripts::Script;
 use definitions::Refusal;
-use terms::declared::Declared;
-use terms::exact::{Due, Step, exact};
-use terms::nodes::{Asked, Laying};
-use terms::terms::{Term, read_term};
+use problem::ops::Sort;
+use terms::declared::{Shelved, Signature};
+use terms::exact::{Due, WrongToken, exact};
+use terms::terms::read_term;
 use terms::tokens::{Lexeme, next};
 
-// The assert's number is kept, where there is room for it; the next command begins at an offset.
-fn keep(roots: &mut [u8], script: Script, asked: Asked, at: usize) -> Script
-    requires { KeepAsked roots.old script asked }
-    ensures { Keeps roots.old script asked at result roots.new }
+// The assert's number is kept, and the next command begins at an offset. A 257th assert is too much.
+fn keep(script: &mut Script, number: u8, at: usize)
+    ensures { Keeps script.old number at script.new }
 {
-    let old = script.declared;
-    let sort = old.sort;
-    let declared = Declared {
-        count: old.count,
-        command: at,
-        sort,
-        inhabited: old.inhabited,
-    };
-    let asserts = script.asserts;
-    let laid = asked.laying;
-    if asserts == 256 {
-        return Script {
-            declared,
-            asserts,
-            laying: Laying {
-                count: laid.count,
-                over: true,
-            },
-        };
-    }
-    roots[asserts] = asked.number as u8;
-    Script {
-        declared,
-        asserts: asserts + 1,
-        laying: laid,
+    script.declared.command = at;
+    if !script.roots.push(number) {
+        script.table.give_up();
     }
 }
 
@@ -49,28 +24,23 @@ fn keep(roots: &mut [u8], script: Script, asked: Asked, at: usize) -> Script
 pub fn read_assert(
     text: &[u8],
     at: usize,
-    shelf: &[usize],
-    nodes: &mut [u8],
-    roots: &mut [u8],
-    script: Script,
-) -> Went
-    requires { AssertAsked text.now at shelf.now nodes.old roots.old script }
-    ensures { ReadsAssert text.now at shelf.now nodes.old roots.old script result nodes.new roots.new }
+    shelf: &[Shelved],
+    script: &mut Script,
+) -> Result<(), Refusal>
+    requires { Inside in_asserting text.now shelf.now script.old at }
+    ensures { WentOn text.now script.old.declared.command shelf.now script.new result }
 {
     let token = next(text, at);
-    let lexeme = token.lexeme;
-    if let Lexeme::Closing = lexeme {
-        return Went::Refused(Refusal::WrongToken(token.place));
+    if let Lexeme::Closing = token.lexeme {
+        return Err(Refusal::WrongToken(token.place));
     }
-    let declared = script.declared;
-    let laying = script.laying;
-    match read_term(text, shelf, declared, token, true, 64, nodes, laying) {
-        Term::Refused(refusal) => Went::Refused(refusal),
-        Term::Read { at: behind, asked } => {
-            match exact(text, Step::At(behind), Due::Closing, b"") {
-                Step::Wrong(place) => Went::Refused(Refusal::WrongToken(place)),
-                Step::At(closed) => Went::On(keep(roots, script, asked, closed)),
-            }
-        }
-    }
+    let signature = Signature {
+        text,
+        shelf,
+        declared: script.declared,
+    };
+    let term = read_term(signature, token, Sort::Formula, 64, &mut script.table)?;
+    let closed = exact(text, term.at, Due::Closing)?;
+    keep(script, term.number, closed);
+    Ok(())
 }

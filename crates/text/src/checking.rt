@@ -2,30 +2,18 @@
 ghost use Rattle.std.specs.Prelude.{◌≤◌, length};
 ghost use Rattle.text.specs.Checking.{ReadsEnd};
 
-use terms::exact::{Due, Step, exact};
+use terms::exact::{Due, WrongToken, exact};
 use terms::tokens::{Lexeme, next};
 
-// The text ends, or something stands there that will not do.
-#[derive(Clone, Copy)]
-pub enum Ended {
-    Yes,
-    Wrong(usize),
-}
-
 // What stands after check-sat.
-pub fn read_end(text: &[u8], at: usize) -> Ended
+pub fn read_end(text: &[u8], at: usize) -> Result<(), WrongToken>
     requires { at ≤ length text.now }
     ensures { ReadsEnd text.now at result }
 {
-    match exact(text, Step::At(at), Due::Closing, b"") {
-        Step::Wrong(place) => Ended::Wrong(place),
-        Step::At(closed) => {
-            let token = next(text, closed);
-            let lexeme = token.lexeme;
-            if let Lexeme::End = lexeme {
-                return Ended::Yes;
-            }
-            Ended::Wrong(token.place)
-        }
+    let closed = exact(text, at, Due::Closing)?;
+    let token = next(text, closed);
+    match token.lexeme {
+        Lexeme::End => Ok(()),
+        _ => Err(WrongToken(token.place)),
     }
 }

@@ -1,54 +1,58 @@
 // Which command comes.
 ghost use Rattle.std.specs.Prelude.{◌≡◌, ◌≤◌, length};
-ghost use Rattle.terms.specs.Lexing.{NameWithin, name_of};
 ghost use Rattle.text.specs.Commands.{command_of, ReadsCommand};
 
-use terms::bytes::same;
-use terms::exact::{Due, Step, exact};
-use terms::tokens::{Lexeme, Name, next};
+use terms::exact::{Due, WrongToken, exact};
+use terms::tokens::{Lexeme, next};
 
-// A command's word, and the offset behind it; or the place of a token that will not do.
 #[derive(Clone, Copy)]
 pub enum Command {
-    Declare(usize),
-    Assert(usize),
-    Check(usize),
-    Wrong(usize),
+    Declare,
+    Assert,
+    Check,
 }
 
-// The command of a word.
-fn word_command(text: &[u8], name: Name, place: usize, behind: usize) -> Command
-    requires { NameWithin text.now name }
-    ensures { result ≡ command_of (name_of text.now name) place behind }
-{
-    let from = name.from;
-    let to = name.to;
-    if same(&text[from..to], b"declare-fun") {
-        return Command::Declare(behind);
+impl Command {
+    // The command of a word.
+    #[tactic(auto, using(terms::proofs::SameLaws::equal_same))]
+    fn of(word: &[u8]) -> Option<Self>
+        ensures { result ≡ command_of word.now }
+    {
+        if word == b"declare-fun".as_slice() {
+            Some(Command::Declare)
+        } else if word == b"assert".as_slice() {
+            Some(Command::Assert)
+        } else if word == b"check-sat".as_slice() {
+            Some(Command::Check)
+        } else {
+            None
+        }
     }
-    if same(&text[from..to], b"assert") {
-        return Command::Assert(behind);
-    }
-    if same(&text[from..to], b"check-sat") {
-        return Command::Check(behind);
-    }
-    Command::Wrong(place)
+}
+
+// A command, and the offset behind its word.
+#[derive(Clone, Copy)]
+pub struct Begun {
+    pub command: Command,
+    pub at: usize,
 }
 
 // The command that begins at an offset.
-pub fn read_command(text: &[u8], at: usize) -> Command
+pub fn read_command(text: &[u8], at: usize) -> Result<Begun, WrongToken>
     requires { at ≤ length text.now }
     ensures { ReadsCommand text.now at result }
 {
-    match exact(text, Step::At(at), Due::Opening, b"") {
-        Step::Wrong(place) => Command::Wrong(place),
-        Step::At(opened) => {
-            let token = next(text, opened);
-            let lexeme = token.lexeme;
-            let Lexeme::Word(name) = lexeme else {
-                return Command::Wrong(token.place);
-            };
-            word_command(text, name, token.place, token.next)
-        }
+    let opened = exact(text, at, Due::Opening)?;
+    let token = next(text, opened);
+    let wrong = Err(WrongToken(token.place));
+    let Lexeme::Word(name) = token.lexeme else {
+        return wrong;
+    };
+    match Command::of(name.of(text)) {
+        Some(command) => Ok(Begun {
+            command,
+            at: token.next,
+        }),
+        None => wrong,
     }
 }

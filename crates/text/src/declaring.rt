@@ -1,29 +1,29 @@
 // A function's declaration.
-ghost use Rattle.text.specs.Declaring.{DeclareAsked, Declares};
+ghost use Rattle.terms.specs.Functions.{in_declaring};
+ghost use Rattle.text.specs.Scripted.{Inside, WentOn};
 
-use crate::scripts::{Script, Went};
+use crate::scripts::Script;
 use crate::shelving::shelve;
 use definitions::Refusal;
-use terms::functions::{Function, read_function};
+use terms::declared::{Shelved, Signature};
+use terms::functions::read_function;
 
 // What stands after declare-fun.
 pub fn read_declaration(
     text: &[u8],
     at: usize,
-    shelf: &mut [usize],
-    symbols: &mut [u8],
-    script: Script,
-) -> Went
-    requires { DeclareAsked text.now at shelf.old symbols.old script }
-    ensures { Declares text.now at shelf.old symbols.old script result shelf.new symbols.new }
+    shelf: &mut [Shelved],
+    script: &mut Script,
+) -> Result<(), Refusal>
+    requires { Inside in_declaring text.now shelf.old script.old at }
+    ensures { WentOn text.now script.old.declared.command shelf.new script.new result }
 {
-    let declared = script.declared;
-    match read_function(text, shelf, declared, at) {
-        Function::Wrong(place) => Went::Refused(Refusal::WrongToken(place)),
-        Function::Symbol {
-            name,
-            byte,
-            at: behind,
-        } => Went::On(shelve(shelf, symbols, script, name, byte, behind)),
-    }
+    let signature = Signature {
+        text,
+        shelf,
+        declared: script.declared,
+    };
+    let function = read_function(signature, at)?;
+    shelve(shelf, script, function);
+    Ok(())
 }

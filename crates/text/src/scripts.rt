@@ -1,20 +1,37 @@
-// How far a text is read, and the buffers that are lent for it.
-use definitions::Refusal;
-use terms::declared::Declared;
-use terms::nodes::Laying;
+// How far a text is read.
+ghost use Rattle.std.specs.Prelude.{◌≡◌};
+ghost use Rattle.text.specs.Scripted.{first_script};
 
-// The declared symbols, with the offset of the next command; how many asserts are read; and the laying.
-#[derive(Clone, Copy)]
+use crate::bytes::Bytes;
+use terms::declared::Declared;
+use terms::nodes::Table;
+use terms::prologue::Named;
+
+// The declared symbols, with the offset of the next command; their bytes in the problem; the table of nodes; and the numbers of the
+// asserts' nodes.
+#[derive(Drop)]
 pub struct Script {
     pub declared: Declared,
-    pub asserts: usize,
-    pub laying: Laying,
+    pub symbols: Bytes<32>,
+    pub table: Table,
+    pub roots: Bytes<256>,
 }
 
-// A command is read, check-sat is and nothing follows, or the text is refused.
-#[derive(Clone, Copy)]
-pub enum Went {
-    On(Script),
-    Done(Script),
-    Refused(Refusal),
+impl Script {
+    // Behind the prologue: nothing is declared, nothing is laid.
+    pub fn new(named: Named) -> Self
+        ensures { result ≡ first_script named }
+    {
+        Script {
+            declared: Declared {
+                count: 0,
+                command: named.at,
+                sort: named.name,
+                inhabited: false,
+            },
+            symbols: Bytes::new(),
+            table: Table::new(),
+            roots: Bytes::new(),
+        }
+    }
 }

@@ -1,77 +1,32 @@
 // A declared function is kept: its name and byte on the shelf, its byte among the problem's symbols.
-ghost use Rattle.std.specs.Prelude.{◌≡◌, ◌<◌, ◌||◌, length, leb, eqb};
-ghost use Rattle.text.specs.Shelving.{Shelvable, Placed, Marked, Shelves};
+ghost use Rattle.text.specs.Shelving.{Shelvable, Placed, Shelves};
 
 use crate::scripts::Script;
-use terms::declared::Declared;
-use terms::nodes::Laying;
-use terms::tokens::Name;
+use terms::declared::Shelved;
+use terms::functions::Function;
 
 // The next place of the shelf, if there is one.
-fn place(shelf: &mut [usize], count: usize, name: Name, byte: usize)
-    ensures { Placed shelf.old count name byte shelf.new }
+fn place(shelf: &mut [Shelved], count: usize, function: Function)
+    ensures { Placed shelf.old count function shelf.new }
 {
-    if count < shelf.len() / 3 {
-        shelf[3 * count] = name.from;
-        shelf[3 * count + 1] = name.to;
-        shelf[3 * count + 2] = byte;
+    if count < shelf.len() {
+        shelf[count] = Shelved {
+            name: function.name,
+            byte: function.byte,
+        };
     }
 }
 
-// The next symbol's byte, of at most 32.
-fn mark(symbols: &mut [u8], count: usize, byte: usize)
-    requires { (length symbols.old ≡ 32) × (byte < 20) }
-    ensures { Marked symbols.old count byte symbols.new }
+// The function is declared, and the next command begins behind it. A 33rd symbol is too much.
+pub fn shelve(shelf: &mut [Shelved], script: &mut Script, function: Function)
+    requires { Shelvable script.old function }
+    ensures { Shelves shelf.old script.old function shelf.new script.new }
 {
-    if count < 32 {
-        symbols[count] = byte as u8;
-    }
-}
-
-fn inhabits(inhabited: bool, byte: usize) -> bool
-    ensures { result ≡ (inhabited || eqb byte 0) }
-{
-    inhabited || byte == 0
-}
-
-// A 33rd symbol is too much.
-fn goes_over(over: bool, count: usize) -> bool
-    ensures { result ≡ (over || leb 32 count) }
-{
-    over || 32 <= count
-}
-
-// The script with a function that is declared up to an offset.
-pub fn shelve(
-    shelf: &mut [usize],
-    symbols: &mut [u8],
-    script: Script,
-    name: Name,
-    byte: usize,
-    at: usize,
-) -> Script
-    requires { Shelvable symbols.old script byte at }
-    ensures { Shelves shelf.old symbols.old script name byte at result shelf.new symbols.new }
-{
-    let declared = script.declared;
-    let laying = script.laying;
-    let count = declared.count;
-    let sort = declared.sort;
-    place(shelf, count, name, byte);
-    mark(symbols, count, byte);
-    let next = Declared {
-        count: count + 1,
-        command: at,
-        sort,
-        inhabited: inhabits(declared.inhabited, byte),
-    };
-    let laid = Laying {
-        count: laying.count,
-        over: goes_over(laying.over, count),
-    };
-    Script {
-        declared: next,
-        asserts: script.asserts,
-        laying: laid,
+    place(shelf, script.declared.count, function);
+    script.declared.count += 1;
+    script.declared.command = function.at;
+    script.declared.inhabited |= function.byte == 0;
+    if !script.symbols.push(function.byte as u8) {
+        script.table.give_up();
     }
 }

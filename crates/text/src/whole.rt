@@ -2,41 +2,25 @@
 ghost use Rattle.text.specs.Scripted.{Scripted};
 ghost use Rattle.text.specs.Whole.{WholeIs};
 
-use crate::scripts::{Script, Went};
-use crate::stepping::step;
+use crate::asserting::read_assert;
+use crate::checking::read_end;
+use crate::commands::{Command, read_command};
+use crate::declaring::read_declaration;
+use crate::scripts::Script;
 use definitions::Refusal;
+use terms::declared::Shelved;
 
-// The text is read out, or refused.
-#[derive(Clone, Copy)]
-pub enum Whole {
-    Read(Script),
-    Refused(Refusal),
-}
-
-// The commands, from the next one on.
-pub fn read_commands(
-    text: &[u8],
-    shelf: &mut [usize],
-    symbols: &mut [u8],
-    nodes: &mut [u8],
-    roots: &mut [u8],
-    first: Script,
-) -> Whole
-    requires { Scripted text.now shelf.old symbols.old nodes.old roots.old first }
-    ensures { WholeIs text.now shelf.new symbols.new nodes.new roots.new result }
+// The commands, from the next one on. No `for`: where each command begins, and whether one follows, the command before it tells.
+pub fn read_commands(text: &[u8], shelf: &mut [Shelved], script: &mut Script) -> Result<(), Refusal>
+    requires { Scripted text.now shelf.old script.old }
+    ensures { WholeIs text.now shelf.new script.new result }
 {
-    let mut script = first;
     loop {
-        match step(text, shelf, symbols, nodes, roots, script) {
-            Went::On(further) => {
-                script = further;
-            }
-            Went::Done(whole) => {
-                return Whole::Read(whole);
-            }
-            Went::Refused(refusal) => {
-                return Whole::Refused(refusal);
-            }
+        let begun = read_command(text, script.declared.command)?;
+        match begun.command {
+            Command::Declare => read_declaration(text, begun.at, shelf, script)?,
+            Command::Assert => read_assert(text, begun.at, shelf, script)?,
+            Command::Check => return Ok(read_end(text, begun.at)?),
         }
     }
 }

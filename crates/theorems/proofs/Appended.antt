@@ -11,6 +11,7 @@ use lib.ListN.{length, take, length-append, get_or-append}
 use lib.Seq.{take-append-le}
 use lib.Dec.{ltb}
 use borrow.Author.Tests.{lt-leb}
+use Rattle.std.specs.Prelude.{Result}
 use Rattle.definitions.specs.Lists.{first_of}
 use Rattle.definitions.specs.Problem.Node.{Node, no_node, table_bytes, problem_bytes}
 use Rattle.definitions.specs.Problem.Check.{nodes_of, is_term, Refused, refuse_if}
@@ -40,8 +41,9 @@ use Rattle.definitions.specs.Operations.Answers.{
 use Rattle.definitions.specs.Operations.Buffers.{over, unless_refused, work_after, work_after_decide, witness_written, witness_after}
 use Rattle.definitions.specs.Operations.Host.{answer_bytes, HostOutcome, host_outcome}
 use Rattle.definitions.specs.Operations.Promises.{CheckPromise, EliminatePromise, RangesPromise, DecidePromise, HostPromise}
-use Rattle.definitions.specs.declared.Checked.{Checked}
-use Rattle.definitions.specs.declared.Eliminated.{Eliminated}
+use Rattle.definitions.specs.declared.Refusal.{Refusal}
+use Rattle.definitions.specs.declared.Counts.{Counts}
+use Rattle.definitions.specs.declared.Table.{Table}
 use Rattle.definitions.specs.declared.Ranges.{Ranges}
 use Rattle.definitions.specs.declared.Decision.{Decision}
 use Rattle.theorems.specs.Appending.{Appends}
@@ -149,10 +151,10 @@ module _ (s u : List ℕ) (appends : Appends s u) (root : ℕ) (inside : root < 
       ]
 
   -- THE PROMISES: two outcomes, one on each table, that keep them are the same
-  pub check_outcomes : (r q : Checked) → CheckPromise root s r → CheckPromise root u q → r ≡ q
+  pub check_outcomes : (r q : Result Counts Refusal) → CheckPromise root s r → CheckPromise root u q → r ≡ q
   check_outcomes r q x y = check_unique root s r q x (record { answers = y.answers ∙ sym check_appended })
 
-  pub eliminate_outcomes : (work : List ℕ) (r q : Eliminated) (w v : List ℕ)
+  pub eliminate_outcomes : (work : List ℕ) (r q : Result Table Refusal) (w v : List ℕ)
       → EliminatePromise root s work r w → EliminatePromise root u work q v → (r ≡ q) × (w ≡ v)
   eliminate_outcomes work r q w v x y =
       eliminate_unique root s work r q w v x
@@ -161,7 +163,7 @@ module _ (s u : List ℕ) (appends : Appends s u) (root : ℕ) (inside : root < 
         work_after_is = y.work_after_is ∙ sym (work_appended work);
       })
 
-  pub ranges_outcomes : (work : List ℕ) (r q : Ranges) (w v : List ℕ)
+  pub ranges_outcomes : (work : List ℕ) (r q : Result Ranges Refusal) (w v : List ℕ)
       → RangesPromise root s work r w → RangesPromise root u work q v → (r ≡ q) × (w ≡ v)
   ranges_outcomes work r q w v x y =
       ranges_unique root s work r q w v x
@@ -170,7 +172,7 @@ module _ (s u : List ℕ) (appends : Appends s u) (root : ℕ) (inside : root < 
         work_after_is = y.work_after_is ∙ sym (work_appended work);
       })
 
-  pub decide_outcomes : (budget : ℕ) (work witness : List ℕ) (r q : Decision) (w v w' v' : List ℕ)
+  pub decide_outcomes : (budget : ℕ) (work witness : List ℕ) (r q : Result Decision Refusal) (w v w' v' : List ℕ)
       → DecidePromise budget root s work witness r w w' → DecidePromise budget root u work witness q v v'
       → (r ≡ q) × (w ≡ v) × (w' ≡ v')
   decide_outcomes budget work witness r q w v w' v' x y =

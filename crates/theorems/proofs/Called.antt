@@ -10,6 +10,7 @@ use mathlib.Core.Option.{Option, none, some}
 use lib.ListN.{length, drop}
 use lib.Dec.{ltb}
 use borrow.Author.Tests.{lt-ltb, le-ltb}
+use Rattle.std.specs.Prelude.{Result, Ok, Err}
 use Rattle.definitions.specs.Bytes.{low_first, bytes_of, two, two_at}
 use Rattle.definitions.specs.Problem.Node.{table_bytes}
 use Rattle.definitions.specs.Problem.Check.{Refused}
@@ -26,9 +27,10 @@ use Rattle.definitions.specs.Operations.Readings.{decision_read}
 use Rattle.definitions.specs.Operations.Host.{answer_bytes, HostOutcome, host_outcome}
 use Rattle.definitions.specs.Operations.Promises.{DecidePromise, HostPromise}
 use Rattle.definitions.specs.declared.Refusal.{Refusal}
+use Rattle.definitions.specs.declared.Verdict.{Verdict}
 use Rattle.definitions.specs.declared.Decision.{Decision}
 use Rattle.theorems.specs.Conditions.{number, place, turn, Refuses, Passes}
-use Rattle.theorems.specs.Searched.{FalsifiableAt}
+use Rattle.theorems.specs.Searched.{FalsifiableAt, with_verdict, valid_answer, falsified_answer, stopped_answer}
 use Rattle.theorems.specs.Called.{verdict_in, refusal_in, written_in, place_in, tried_in, product_in}
 use Rattle.theorems.proofs.Tables.Back.{two_back}
 use Rattle.theorems.proofs.Refusing.{refusal_named_lem, place_small}
@@ -45,16 +47,16 @@ bytes_back (suc k) n h =
     omega arith
 
 -- some decision is decide's, whatever the input
-pub decides : (s : List ℕ) (root budget work room : ℕ) → (d : Decision) × (decision_read d ≡ decide_answer s root budget work room)
+pub decides : (s : List ℕ) (root budget work room : ℕ) → (d : Result Decision Refusal) × (decision_read d ≡ decide_answer s root budget work room)
 unfolding decide_answer
 decides s root budget work room = go (decide_refusal s root work room) refl
   where
     go : (o : Option Refused) → decide_refusal s root work room ≡ o
-        → (d : Decision) × (decision_read d ≡ unless o (decided (asked s root) (outcome_of (asked s root) budget)))
+        → (d : Result Decision Refusal) × (decision_read d ≡ unless o (decided (asked s root) (outcome_of (asked s root) budget)))
     go none e = (decision_of (asked s root) (outcome_of (asked s root) budget), decision_read_lem (asked s root) (outcome_of (asked s root) budget))
     go (some q) e =
         let x = refusal_named_lem s root work room q e in
-        (Decision.Refused x.0, ap refused x.1)
+        (Err x.0, ap refused x.1)
 
 module _
     (budget root : ℕ)
@@ -95,7 +97,7 @@ module _
 
   -- in a longer one stand the bytes of a decision that is decide's, and then what stood there
   pub long_call : 32 ≤ length answer
-      → (d : Decision) × DecidePromise budget root s work witness d work' witness'
+      → (d : Result Decision Refusal) × DecidePromise budget root s work witness d work' witness'
       × (answer' ≡ over (answer_bytes (decision_read d)) answer) × (r ≡ 1)
   long_call h =
       let o = outcome_by_lem false (le-ltb (length answer) 32 h) in
@@ -130,7 +132,7 @@ module _
   Told (suc (suc (suc (suc n)))) = ⊥
 
   -- eight bytes are enough for the numbers of an answer
-  module _ (d : Decision) (decide : DecidePromise budget root s work witness d work' witness') (values : Decided) (e : decision_read d ≡ given values) where
+  module _ (d : Result Decision Refusal) (decide : DecidePromise budget root s work witness d work' witness') (values : Decided) (e : decision_read d ≡ given values) where
     input : Taken s root (length work) (length witness)
     input = taken_input budget root s work witness d work' witness' decide values e
 
@@ -140,11 +142,11 @@ module _
     written_back : (p : ℕ) → two_at (two (length (witness_at a p))) 0 ≡ length (witness_at a p)
     written_back p = let l = witness_short a input.problem p in two_back (length (witness_at a p)) (omega arith)
 
-  told_by : (d : Decision) → DecidePromise budget root s work witness d work' witness' → answer' ≡ over (answer_bytes (decision_read d)) answer
-      → Told (verdict_in answer')
-  told_by (Decision.Valid t p) decide e =
-      let v = valid_decision budget root s work witness (Decision.Valid t p) work' witness' decide t p refl in
-      let back = eight_back (Decision.Valid t p) decide _ refl in
+  told_verdict : (v : Verdict) (t p : ℕ) → DecidePromise budget root s work witness (with_verdict v t p) work' witness'
+      → answer' ≡ over (answer_bytes (decision_read (with_verdict v t p))) answer → Told (verdict_in answer')
+  told_verdict Verdict.Valid t p decide e =
+      let v = valid_decision budget root s work witness (valid_answer t p) work' witness' decide t p refl in
+      let back = eight_back (valid_answer t p) decide _ refl in
       subst Told (sym (ap verdict_in e)) (
         ap product_in e ∙ back p (omega arith) ∙ v.0,
         ap tried_in e ∙ back t (omega arith) ∙ v.1,
@@ -152,9 +154,9 @@ module _
         v.3,
         v.4,
       )
-  told_by (Decision.Falsified t p w) decide e =
-      let f = falsified_decision budget root s work witness (Decision.Falsified t p w) work' witness' decide t p w refl in
-      let back = eight_back (Decision.Falsified t p w) decide _ refl in
+  told_verdict (Verdict.Falsified w) t p decide e =
+      let f = falsified_decision budget root s work witness (falsified_answer t p w) work' witness' decide t p w refl in
+      let back = eight_back (falsified_answer t p w) decide _ refl in
       let count : tried_in answer' ≡ t = ap tried_in e ∙ back t f.2 in
       subst Told (sym (ap verdict_in e)) (
         ap product_in e ∙ back p (omega arith) ∙ f.0,
@@ -164,13 +166,13 @@ module _
         ap (true_at a) count ∙ f.4,
         λ q l h. f.5 q l (omega arith),
         f.6,
-        ap written_in e ∙ ap (λ n. two_at (two n) 0) f.7 ∙ written_back (Decision.Falsified t p w) decide _ refl t
+        ap written_in e ∙ ap (λ n. two_at (two n) 0) f.7 ∙ written_back (falsified_answer t p w) decide _ refl t
             ∙ ap (λ n. length (witness_at a n)) (sym count),
         f.8 ∙ ap (λ n. over (witness_at a n) witness) (sym count),
       )
-  told_by (Decision.Stopped t p) decide e =
-      let v = stopped_decision budget root s work witness (Decision.Stopped t p) work' witness' decide t p refl in
-      let back = eight_back (Decision.Stopped t p) decide _ refl in
+  told_verdict Verdict.Stopped t p decide e =
+      let v = stopped_decision budget root s work witness (stopped_answer t p) work' witness' decide t p refl in
+      let back = eight_back (stopped_answer t p) decide _ refl in
       subst Told (sym (ap verdict_in e)) (
         ap product_in e ∙ back p (omega arith) ∙ v.0,
         ap tried_in e ∙ back t (omega arith) ∙ v.1,
@@ -178,9 +180,13 @@ module _
         v.3,
         v.4,
       )
-  told_by (Decision.Refused x) decide e =
-      let c = (refused_exactly budget root s work witness (Decision.Refused x) work' witness' decide x).0 refl in
-      let l = refused_leaves budget root s work witness (Decision.Refused x) work' witness' decide x refl in
+
+  told_by : (d : Result Decision Refusal) → DecidePromise budget root s work witness d work' witness' → answer' ≡ over (answer_bytes (decision_read d)) answer
+      → Told (verdict_in answer')
+  told_by (Ok d) decide e = told_verdict d.verdict d.tried d.product decide e
+  told_by (Err x) decide e =
+      let c = (refused_exactly budget root s work witness (Err x) work' witness' decide x).0 refl in
+      let l = refused_leaves budget root s work witness (Err x) work' witness' decide x refl in
       let small = place_small s root (length work) (length witness) x c in
       subst Told (sym (ap verdict_in e)) (x, ap refusal_in e, ap place_in e ∙ bytes_back 8 (place x) (omega arith), c, l.0, l.1, l.2)
 
@@ -209,17 +215,17 @@ module _
   told_enough h p enough =
       let c = long_call h in
       let d = c.0 in
-      let byte : (q : Decision) → d ≡ q → verdict_in answer' ≡ verdict_in (over (answer_bytes (decision_read q)) answer) =
-      λ q e. ap verdict_in c.2 ∙ ap (λ (q : Decision). verdict_in (over (answer_bytes (decision_read q)) answer)) e
+      let byte : (q : Result Decision Refusal) → d ≡ q → verdict_in answer' ≡ verdict_in (over (answer_bytes (decision_read q)) answer) =
+      λ q e. ap verdict_in c.2 ∙ ap (λ (q : Result Decision Refusal). verdict_in (over (answer_bytes (decision_read q)) answer)) e
       in (
         (
           λ e. (subst Told e (told h)).3,
-          λ v. byte (Decision.Valid (product a) (product a)) ((valid_decided budget root s work witness d work' witness' c.1 p enough).1 v),
+          λ v. byte (valid_answer (product a) (product a)) ((valid_decided budget root s work witness d work' witness' c.1 p enough).1 v),
         ),
         (
           λ e. (tables_of witness', (subst Told e (told h)).6),
           λ f.
               let q = (falsified_decided budget root s work witness d work' witness' c.1 p enough).1 f in
-              byte (Decision.Falsified q.0 (product a) q.1) q.2,
+              byte (falsified_answer q.0 (product a) q.1) q.2,
         ),
       )

@@ -7,6 +7,7 @@ use mathlib.Core.List.{List, []}
 use mathlib.Core.Logic.{◌↔◌}
 use mathlib.Core.Option.{Option, none, some}
 use lib.ListN.{length, drop}
+use Rattle.std.specs.Prelude.{Result, Ok, Err}
 use Rattle.definitions.specs.Problem.Node.{Node, nodes_at, table_bytes}
 use Rattle.definitions.specs.Problem.Check.{Refused}
 use Rattle.definitions.specs.Problem.Asked.{asked}
@@ -21,9 +22,10 @@ use Rattle.definitions.specs.Operations.Buffers.{over, unless_refused, work_afte
 use Rattle.definitions.specs.Operations.Readings.{refusal_read, decision_read}
 use Rattle.definitions.specs.Operations.Promises.{DecidePromise}
 use Rattle.definitions.specs.declared.Refusal.{Refusal}
+use Rattle.definitions.specs.declared.Verdict.{Verdict}
 use Rattle.definitions.specs.declared.Decision.{Decision}
 use Rattle.theorems.specs.Conditions.{turn, Refuses, PassesTwelve, Passes}
-use Rattle.theorems.specs.Searched.{Falsifiable, FalsifiableAt, table_truth, tried_of, tried_within}
+use Rattle.theorems.specs.Searched.{Falsifiable, FalsifiableAt, table_truth, tried_of, tried_within, with_verdict, valid_answer, falsified_answer, stopped_answer}
 use Rattle.theorems.proofs.Laws.Tests.{clash}
 use Rattle.theorems.proofs.Accepted.{Accepted}
 use Rattle.theorems.proofs.Exactly.{valid_sound, falsified_sound, stopped_sound, valid_exactly, falsified_exactly, stopped_exactly}
@@ -38,10 +40,10 @@ use Rattle.theorems.proofs.Witness.Falsifies.{witness_truth}
 use Rattle.theorems.proofs.Asked.Formed.{Named, asked_holds}
 
 -- the decision that an outcome and the product make
-abbrev pub decision_of : List ℕ → Outcome → Decision
-decision_of s (valid t) = Decision.Valid t (product s)
-decision_of s (falsified t) = Decision.Falsified t (product s) (length (witness_at s t))
-decision_of s (stopped t) = Decision.Stopped t (product s)
+abbrev pub decision_of : List ℕ → Outcome → Result Decision Refusal
+decision_of s (valid t) = valid_answer t (product s)
+decision_of s (falsified t) = falsified_answer t (product s) (length (witness_at s t))
+decision_of s (stopped t) = stopped_answer t (product s)
 
 pub decision_read_lem : (s : List ℕ) (o : Outcome) → decision_read (decision_of s o) ≡ given (decided s o)
 decision_read_lem s (valid t) = refl
@@ -53,23 +55,39 @@ decision_tried s (valid t) = refl
 decision_tried s (falsified t) = refl
 decision_tried s (stopped t) = refl
 
+-- equal answers have equal parts
+abbrev verdict_of : Result Decision Refusal → Verdict
+verdict_of (Ok d) = d.verdict
+verdict_of (Err x) = Verdict.Stopped
+
+abbrev places_of : Result Decision Refusal → ℕ
+places_of (Ok d) = d.product
+places_of (Err x) = 0
+
+parts : (v w : Verdict) (t u p q : ℕ) → with_verdict v t p ≡ with_verdict w u q → (v ≡ w) × (t ≡ u) × (q ≡ p)
+parts v w t u p q e = (ap verdict_of e, ap tried_of e, sym (ap places_of e))
+
 -- it tells the outcome
 module _ (s : List ℕ) (tried places : ℕ) where
-  says_valid : (o : Outcome) → decision_of s o ≡ Decision.Valid tried places → (o ≡ valid tried) × (places ≡ product s)
-  says_valid (valid t) e = (cc, cc)
-  says_valid (falsified t) e = clash (cc)
-  says_valid (stopped t) e = clash (cc)
+  says_valid : (o : Outcome) → decision_of s o ≡ valid_answer tried places → (o ≡ valid tried) × (places ≡ product s)
+  says_valid (valid t) e = let h = parts _ _ _ _ _ _ e in (ap valid h.1, h.2)
+  says_valid (falsified t) e = let h = (parts _ _ _ _ _ _ e).0 in clash (cc)
+  says_valid (stopped t) e = let h = (parts _ _ _ _ _ _ e).0 in clash (cc)
 
-  says_falsified : (written : ℕ) (o : Outcome) → decision_of s o ≡ Decision.Falsified tried places written
+  says_falsified : (written : ℕ) (o : Outcome) → decision_of s o ≡ falsified_answer tried places written
       → (o ≡ falsified tried) × (places ≡ product s) × (written ≡ length (witness_at s tried))
-  says_falsified written (valid t) e = clash (cc)
-  says_falsified written (falsified t) e = (cc, cc, cc)
-  says_falsified written (stopped t) e = clash (cc)
+  says_falsified written (valid t) e = let h = (parts _ _ _ _ _ _ e).0 in clash (cc)
+  says_falsified written (falsified t) e =
+      let h = parts _ _ _ _ _ _ e in
+      let v = h.0 in
+      let n = h.1 in
+      (ap falsified n, h.2, cc)
+  says_falsified written (stopped t) e = let h = (parts _ _ _ _ _ _ e).0 in clash (cc)
 
-  says_stopped : (o : Outcome) → decision_of s o ≡ Decision.Stopped tried places → (o ≡ stopped tried) × (places ≡ product s)
-  says_stopped (valid t) e = clash (cc)
-  says_stopped (falsified t) e = clash (cc)
-  says_stopped (stopped t) e = (cc, cc)
+  says_stopped : (o : Outcome) → decision_of s o ≡ stopped_answer tried places → (o ≡ stopped tried) × (places ≡ product s)
+  says_stopped (valid t) e = let h = (parts _ _ _ _ _ _ e).0 in clash (cc)
+  says_stopped (falsified t) e = let h = (parts _ _ _ _ _ _ e).0 in clash (cc)
+  says_stopped (stopped t) e = let h = parts _ _ _ _ _ _ e in (ap stopped h.1, h.2)
 
 -- what is said of the problem asked is said of the named root
 module _ (s : List ℕ) (root : ℕ) (ok : Named s root) where
@@ -83,7 +101,7 @@ module _ (s : List ℕ) (root : ℕ) (ok : Named s root) where
 module _
     (budget root : ℕ)
     (s work witness : List ℕ)
-    (r : Decision)
+    (r : Result Decision Refusal)
     (work' witness' : List ℕ)
     (promise : DecidePromise budget root s work witness r work' witness') where
   -- the problem asked
@@ -111,13 +129,13 @@ module _
   work_by o e = promise.work_after_is ∙ ap (λ (o : Option Refused). unless_refused o work (over (table_bytes (table_of a)) work)) e
 
   -- a refusal comes exactly where it refuses
-  refusal_is : (x : Refusal) → (r ≡ Decision.Refused x) ↔ (refusal ≡ some (refusal_read x))
+  refusal_is : (x : Refusal) → (r ≡ Err x) ↔ (refusal ≡ some (refusal_read x))
   refusal_is x = (
     λ e. refused_taken refusal (decided a found) (refusal_read x) (sym (ap decision_read e) ∙ answer_by refusal refl),
-    λ e. decision_apart r (Decision.Refused x) (answer_by (some (refusal_read x)) e),
+    λ e. decision_apart r (Err x) (answer_by (some (refusal_read x)) e),
   )
 
-  pub refused_exactly : (x : Refusal) → (r ≡ Decision.Refused x) ↔ Refuses s root (length work) (length witness) x
+  pub refused_exactly : (x : Refusal) → (r ≡ Err x) ↔ Refuses s root (length work) (length witness) x
   refused_exactly x =
       let c = refuses s root (length work) (length witness) x in
       (λ e. c.0 ((refusal_is x).0 e), λ m. (refusal_is x).1 (c.1 m))
@@ -126,14 +144,14 @@ module _
   table_laid : PassesTwelve s root (length work) (length witness) → work' ≡ over (table_bytes (table_of a)) work
   table_laid p = work_by none ((passes_twelve s root (length work) (length witness)).1 p)
 
-  work_kept : (x : Refusal) → r ≡ Decision.Refused x → turn x ≤ 12 → work' ≡ work
+  work_kept : (x : Refusal) → r ≡ Err x → turn x ≤ 12 → work' ≡ work
   work_kept x e l = go (buffers_refusal s root (length work) (length witness)) refl
     where
       go : (o : Option Refused) → buffers_refusal s root (length work) (length witness) ≡ o → work' ≡ work
       go (some q) b = work_by (some q) b
       go none b = absurd ((passes_twelve s root (length work) (length witness)).0 b x l ((refused_exactly x).0 e).0)
 
-  pub refused_leaves : (x : Refusal) → r ≡ Decision.Refused x
+  pub refused_leaves : (x : Refusal) → r ≡ Err x
       → (witness' ≡ witness) × (turn x ≤ 12 → work' ≡ work) × (turn x ≡ 13 → work' ≡ over (table_bytes (table_of a)) work)
   refused_leaves x e = (
     witness_by (some (refusal_read x)) ((refusal_is x).0 e),
@@ -168,13 +186,13 @@ module _
   pub taken_input : (d : Decided) → decision_read r ≡ given d → Taken s root (length work) (length witness)
   taken_input d e = taken s root (length work) (length witness) (given_free d e)
 
-  pub taken_exactly : ((x : Refusal) → r ≡ Decision.Refused x → ⊥) ↔ Passes s root (length work) (length witness)
+  pub taken_exactly : ((x : Refusal) → r ≡ Err x → ⊥) ↔ Passes s root (length work) (length witness)
   taken_exactly = (
     λ n. (passes s root (length work) (length witness)).0 (go n refusal refl),
     λ p x e. p x ((refused_exactly x).0 e).0,
   )
     where
-      go : ((x : Refusal) → r ≡ Decision.Refused x → ⊥) → (o : Option Refused) → refusal ≡ o → o ≡ none
+      go : ((x : Refusal) → r ≡ Err x → ⊥) → (o : Option Refused) → refusal ≡ o → o ≡ none
       go n none e = refl
       go n (some q) e =
           let x = refusal_named_lem s root (length work) (length witness) q e in
@@ -194,7 +212,7 @@ module _
     witness_is : (o : Outcome) → found ≡ o → witness' ≡ witness_written a o witness
     witness_is o e = witness_by none free ∙ ap (λ (o : Outcome). witness_written a o witness) e
 
-  pub valid_decision : (tried places : ℕ) → r ≡ Decision.Valid tried places
+  pub valid_decision : (tried places : ℕ) → r ≡ valid_answer tried places
       → (places ≡ product a) × (tried ≡ product a) × (product a ≤ budget) × ValidAt s root × (witness' ≡ witness)
   valid_decision tried places e =
       let free = given_free _ (ap decision_read e) in
@@ -202,7 +220,7 @@ module _
       let v = valid_sound a (problem free) budget tried o.0 in
       (o.1, v.0, v.1, (valid_at s root (names free)).0 v.2, witness_is free (valid tried) o.0)
 
-  pub falsified_decision : (tried places written : ℕ) → r ≡ Decision.Falsified tried places written
+  pub falsified_decision : (tried places written : ℕ) → r ≡ falsified_answer tried places written
       → (places ≡ product a) × (1 ≤ tried) × (tried ≤ product a) × (tried ≤ budget)
       × (true_at a tried ≡ false) × ((p : ℕ) → 1 ≤ p → p < tried → true_at a p ≡ true)
       × (holds_at (tables_of witness') s root ≡ false)
@@ -226,7 +244,7 @@ module _
         w,
       )
 
-  pub stopped_decision : (tried places : ℕ) → r ≡ Decision.Stopped tried places
+  pub stopped_decision : (tried places : ℕ) → r ≡ stopped_answer tried places
       → (places ≡ product a) × (tried ≡ budget) × (budget < product a) × ((p : ℕ) → 1 ≤ p → p ≤ budget → true_at a p ≡ true)
       × (witness' ≡ witness)
   stopped_decision tried places e =
@@ -239,14 +257,14 @@ module _
     free : refusal ≡ none
     free = (passes s root (length work) (length witness)).1 p
 
-    pub valid_decided : product a ≤ budget → (r ≡ Decision.Valid (product a) (product a)) ↔ ValidAt s root
+    pub valid_decided : product a ≤ budget → (r ≡ valid_answer (product a) (product a)) ↔ ValidAt s root
     valid_decided h = (
       λ e. (valid_decision (product a) (product a) e).3,
       λ v. decision_is free ∙ ap (decision_of a) ((valid_exactly a (problem free) budget h).1 ((valid_at s root (names free)).1 v)),
     )
 
     pub falsified_decided : product a ≤ budget
-        → ((tried written : ℕ) × (r ≡ Decision.Falsified tried (product a) written)) ↔ FalsifiableAt s root
+        → ((tried written : ℕ) × (r ≡ falsified_answer tried (product a) written)) ↔ FalsifiableAt s root
     falsified_decided h = (
       λ e.
           let o = says_falsified a e.0 (product a) e.1 found (sym (decision_is free) ∙ e.2) in
@@ -257,7 +275,7 @@ module _
     )
 
     pub stopped_decided : budget < product a
-        → (r ≡ Decision.Stopped budget (product a)) ↔ ((p : ℕ) → 1 ≤ p → p ≤ budget → true_at a p ≡ true)
+        → (r ≡ stopped_answer budget (product a)) ↔ ((p : ℕ) → 1 ≤ p → p ≤ budget → true_at a p ≡ true)
     stopped_decided h = (
       λ e. (stopped_decision budget (product a) e).3,
       λ all. decision_is free ∙ ap (decision_of a) ((stopped_exactly a (problem free) budget h).1 all),

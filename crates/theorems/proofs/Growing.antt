@@ -4,6 +4,7 @@ use Prim.Native.Nat.{ℕ, ◌≤◌}
 use mathlib.Core.List.{List}
 use mathlib.Core.Option.{Option, none, some}
 use lib.ListN.{length}
+use Rattle.std.specs.Prelude.{Result}
 use Rattle.definitions.specs.Problem.Check.{Refused}
 use Rattle.definitions.specs.Problem.Asked.{asked}
 use Rattle.definitions.specs.Ranges.{product}
@@ -11,7 +12,9 @@ use Rattle.definitions.specs.Verdict.{Outcome, valid, falsified, stopped, outcom
 use Rattle.definitions.specs.Operations.Answers.{decide_refusal, unless, decided, decide_answer}
 use Rattle.definitions.specs.Operations.Buffers.{unless_refused, witness_written, witness_after}
 use Rattle.definitions.specs.Operations.Promises.{DecidePromise}
+use Rattle.definitions.specs.declared.Refusal.{Refusal}
 use Rattle.definitions.specs.declared.Decision.{Decision}
+use Rattle.theorems.specs.Searched.{stopped_answer}
 use Rattle.theorems.proofs.Exactly.{valid_stays, falsified_stays}
 use Rattle.theorems.proofs.Unique.{decision_apart}
 use Rattle.theorems.proofs.Decided.{decision_of, decision_is}
@@ -27,11 +30,11 @@ module _
     (budget larger root : ℕ)
     (more : budget ≤ larger)
     (s work witness : List ℕ)
-    (r q : Decision)
+    (r q : Result Decision Refusal)
     (work' witness' v v' : List ℕ)
     (promise : DecidePromise budget root s work witness r work' witness')
     (other : DecidePromise larger root s work witness q v v')
-    (moved : (tried places : ℕ) → r ≡ Decision.Stopped tried places → ⊥) where
+    (moved : (tried places : ℕ) → r ≡ stopped_answer tried places → ⊥) where
   abbrev a : List ℕ
   a = asked s root
 

@@ -1,31 +1,30 @@
--- No second answer or buffer content meets a promise: the readings of the answer enums can be undone, and the rest of each
+-- No second answer or buffer content meets a promise: the readings of the answers can be undone, and the rest of each
 -- promise is an equation. Assumes nothing.
 use mathlib.Core.Path.{◌≡◌, refl, sym, ap, ◌∙◌}
 use Prim.Native.Nat.{ℕ}
 use mathlib.Core.List.{List, [], ◌∷◌}
 use mathlib.Core.Bool.{true, false}
 use lib.Dec.{eqb}
+use Rattle.std.specs.Prelude.{Result, Ok, Err}
 use Rattle.definitions.specs.Problem.Check.{Refused}
 use Rattle.definitions.specs.Operations.Answers.{
   Answer,
   refused,
   given,
-  Counts,
-  Table,
-  Measure,
   RangesAnswer,
-  Verdict,
   isValid,
   isFalsified,
   isStopped,
   Decided,
 }
+use Rattle.definitions.specs.Operations.Answers as paper
 use Rattle.definitions.specs.Operations.Readings.{
   refusal_read,
   checked_read,
   eliminated_read,
-  measured_read,
   ranges_read,
+  verdict_read,
+  written_read,
   decision_read,
   reading_read,
 }
@@ -57,12 +56,11 @@ use Rattle.definitions.specs.declared.Refusal.TheVariants.{
   WrongRoot,
   ShortProblem,
 }
-use Rattle.definitions.specs.declared.Checked.{Checked}
-use Rattle.definitions.specs.declared.Eliminated.{Eliminated}
-use Rattle.definitions.specs.declared.Measured.{Measured}
+use Rattle.definitions.specs.declared.Counts.{Counts}
+use Rattle.definitions.specs.declared.Table.{Table}
 use Rattle.definitions.specs.declared.Ranges.{Ranges}
+use Rattle.definitions.specs.declared.Verdict.{Verdict}
 use Rattle.definitions.specs.declared.Decision.{Decision}
-use Rattle.definitions.specs.declared.Reading.{Reading}
 
 -- a reading that can be undone tells its values apart
 apart : {A B : Type 0} (read : A → B) (undo : B → A) → ((x : A) → undo (read x) ≡ x) → (x y : A) → read x ≡ read y → x ≡ y
@@ -114,84 +112,84 @@ refusal_back (TooDeep k) = refl
 refusal_back WrongRoot = refl
 refusal_back ShortProblem = refl
 
-abbrev checked_named : Answer Counts → Checked
-checked_named (refused r) = Checked.Refused (refusal_named r)
-checked_named (given c) = Checked.Accepted c.functions c.predicates
+abbrev checked_named : Answer paper.Counts → Result Counts Refusal
+checked_named (refused r) = Err (refusal_named r)
+checked_named (given c) = Ok (record { functions = c.functions; predicates = c.predicates })
 
-checked_back : (r : Checked) → checked_named (checked_read r) ≡ r
-checked_back (Checked.Accepted f p) = refl
-checked_back (Checked.Refused r) = ap Checked.Refused (refusal_back r)
+checked_back : (r : Result Counts Refusal) → checked_named (checked_read r) ≡ r
+checked_back (Ok c) = refl
+checked_back (Err r) = ap (λ (x : Refusal). Err x) (refusal_back r)
 
-abbrev eliminated_named : Answer Table → Eliminated
-eliminated_named (refused r) = Eliminated.Refused (refusal_named r)
-eliminated_named (given c) = Eliminated.Table c.nodes c.root
+abbrev eliminated_named : Answer paper.Table → Result Table Refusal
+eliminated_named (refused r) = Err (refusal_named r)
+eliminated_named (given t) = Ok (record { nodes = t.nodes; root = t.root })
 
-eliminated_back : (r : Eliminated) → eliminated_named (eliminated_read r) ≡ r
-eliminated_back (Eliminated.Table n k) = refl
-eliminated_back (Eliminated.Refused r) = ap Eliminated.Refused (refusal_back r)
+eliminated_back : (r : Result Table Refusal) → eliminated_named (eliminated_read r) ≡ r
+eliminated_back (Ok t) = refl
+eliminated_back (Err r) = ap (λ (x : Refusal). Err x) (refusal_back r)
 
-abbrev measured_named : Answer Measure → Measured
-measured_named (refused r) = Measured.Refused (refusal_named r)
-measured_named (given c) = Measured.Given c.truths c.product
+abbrev measure_named : List ℕ → Answer paper.Measure → Result Ranges Refusal
+measure_named tops (refused r) = Err (refusal_named r)
+measure_named tops (given m) = Ok (record { tops = tops; truths = m.truths; product = m.product })
 
-measured_back : (r : Measured) → measured_named (measured_read r) ≡ r
-measured_back (Measured.Given n k) = refl
-measured_back (Measured.Refused r) = ap Measured.Refused (refusal_back r)
+abbrev ranges_named : RangesAnswer → Result Ranges Refusal
+ranges_named a = measure_named a.tops a.answer
 
-abbrev ranges_named : RangesAnswer → Ranges
-ranges_named a = record { tops = a.tops; answer = measured_named a.answer }
+ranges_back : (r : Result Ranges Refusal) → ranges_named (ranges_read r) ≡ r
+ranges_back (Ok r) = refl
+ranges_back (Err r) = ap (λ (x : Refusal). Err x) (refusal_back r)
 
-ranges_back : (r : Ranges) → ranges_named (ranges_read r) ≡ r
-ranges_back r = λ i. record { tops = r.tops; answer = measured_back r.answer i }
+abbrev verdict_named : paper.Verdict → ℕ → Verdict
+verdict_named isValid written = Verdict.Valid
+verdict_named isFalsified written = Verdict.Falsified written
+verdict_named isStopped written = Verdict.Stopped
 
-abbrev verdict_named : Verdict → ℕ → ℕ → ℕ → Decision
-verdict_named isValid tried product written = Decision.Valid tried product
-verdict_named isFalsified tried product written = Decision.Falsified tried product written
-verdict_named isStopped tried product written = Decision.Stopped tried product
+verdict_back : (v : Verdict) → verdict_named (verdict_read v) (written_read v) ≡ v
+verdict_back Verdict.Valid = refl
+verdict_back (Verdict.Falsified written) = refl
+verdict_back Verdict.Stopped = refl
 
-abbrev decision_named : Answer Decided → Decision
-decision_named (refused r) = Decision.Refused (refusal_named r)
-decision_named (given d) = verdict_named d.verdict d.tried d.product d.written
+abbrev decision_named : Answer Decided → Result Decision Refusal
+decision_named (refused r) = Err (refusal_named r)
+decision_named (given d) = Ok (record { verdict = verdict_named d.verdict d.written; tried = d.tried; product = d.product })
 
-decision_back : (r : Decision) → decision_named (decision_read r) ≡ r
-decision_back (Decision.Valid t p) = refl
-decision_back (Decision.Falsified t p w) = refl
-decision_back (Decision.Stopped t p) = refl
-decision_back (Decision.Refused r) = ap Decision.Refused (refusal_back r)
+decision_back : (r : Result Decision Refusal) → decision_named (decision_read r) ≡ r
+decision_back (Ok d) = λ i. Ok (record { verdict = verdict_back d.verdict i; tried = d.tried; product = d.product })
+decision_back (Err r) = ap (λ (x : Refusal). Err x) (refusal_back r)
 
-abbrev reading_named : Answer ℕ → Reading
-reading_named (refused r) = Reading.Refused (refusal_named r)
-reading_named (given written) = Reading.Problem written
+abbrev reading_named : Answer ℕ → Result ℕ Refusal
+reading_named (refused r) = Err (refusal_named r)
+reading_named (given written) = Ok written
 
-reading_back : (r : Reading) → reading_named (reading_read r) ≡ r
-reading_back (Reading.Problem written) = refl
-reading_back (Reading.Refused r) = ap Reading.Refused (refusal_back r)
+reading_back : (r : Result ℕ Refusal) → reading_named (reading_read r) ≡ r
+reading_back (Ok written) = refl
+reading_back (Err r) = ap (λ (x : Refusal). Err x) (refusal_back r)
 
 -- each reading tells its answers apart
 pub refusal_apart : (r q : Refusal) → refusal_read r ≡ refusal_read q → r ≡ q
 refusal_apart = apart refusal_read refusal_named refusal_back
 
-pub decision_apart : (r q : Decision) → decision_read r ≡ decision_read q → r ≡ q
+pub decision_apart : (r q : Result Decision Refusal) → decision_read r ≡ decision_read q → r ≡ q
 decision_apart = apart decision_read decision_named decision_back
 
-pub reading_apart : (r q : Reading) → reading_read r ≡ reading_read q → r ≡ q
+pub reading_apart : (r q : Result ℕ Refusal) → reading_read r ≡ reading_read q → r ≡ q
 reading_apart = apart reading_read reading_named reading_back
 
 -- two outcomes that meet the promise on one input are equal
-pub check_unique : (root : ℕ) (s : List ℕ) (r q : Checked) → CheckPromise root s r → CheckPromise root s q → r ≡ q
+pub check_unique : (root : ℕ) (s : List ℕ) (r q : Result Counts Refusal) → CheckPromise root s r → CheckPromise root s q → r ≡ q
 check_unique root s r q x y = apart checked_read checked_named checked_back r q (x.answers ∙ sym y.answers)
 
-pub eliminate_unique : (root : ℕ) (s work : List ℕ) (r q : Eliminated) (w v : List ℕ)
+pub eliminate_unique : (root : ℕ) (s work : List ℕ) (r q : Result Table Refusal) (w v : List ℕ)
     → EliminatePromise root s work r w → EliminatePromise root s work q v → (r ≡ q) × (w ≡ v)
 eliminate_unique root s work r q w v x y =
     (apart eliminated_read eliminated_named eliminated_back r q (x.answers ∙ sym y.answers), x.work_after_is ∙ sym y.work_after_is)
 
-pub ranges_unique : (root : ℕ) (s work : List ℕ) (r q : Ranges) (w v : List ℕ)
+pub ranges_unique : (root : ℕ) (s work : List ℕ) (r q : Result Ranges Refusal) (w v : List ℕ)
     → RangesPromise root s work r w → RangesPromise root s work q v → (r ≡ q) × (w ≡ v)
 ranges_unique root s work r q w v x y =
     (apart ranges_read ranges_named ranges_back r q (x.answers ∙ sym y.answers), x.work_after_is ∙ sym y.work_after_is)
 
-pub decide_unique : (budget root : ℕ) (s work witness : List ℕ) (r q : Decision) (w v w' v' : List ℕ)
+pub decide_unique : (budget root : ℕ) (s work witness : List ℕ) (r q : Result Decision Refusal) (w v w' v' : List ℕ)
     → DecidePromise budget root s work witness r w w' → DecidePromise budget root s work witness q v v' → (r ≡ q) × (w ≡ v) × (w' ≡ v')
 decide_unique budget root s work witness r q w v w' v' x y = (
   decision_apart r q (x.answers ∙ sym y.answers),
@@ -209,7 +207,7 @@ host_unique budget root s work witness answer r q w v w' v' a b x y = (
   x.answer_after ∙ sym y.answer_after,
 )
 
-pub read_unique : (text problem : List ℕ) (r q : Reading) (w v : List ℕ)
+pub read_unique : (text problem : List ℕ) (r q : Result ℕ Refusal) (w v : List ℕ)
     → ReadPromise text problem r w → ReadPromise text problem q v → (r ≡ q) × (w ≡ v)
 read_unique text problem r q w v x y =
     (reading_apart r q (x.answers ∙ sym y.answers), x.problem_after ∙ sym y.problem_after)

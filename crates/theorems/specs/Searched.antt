@@ -1,12 +1,14 @@
 -- What a search of the places says (01, 'Verdicts'), over any test of places; and the other words of Top: a formula that some
 -- interpretation falsifies, the truth of a table that stands in bytes, the count of an answer. Assumes nothing.
-use Rattle.std.specs.Prelude.{◌≡◌, ℕ, min, ◌≤◌, ◌<◌, Bool, true, false, cond, List, [], length, leb}
+use Rattle.std.specs.Prelude.{◌≡◌, ℕ, min, ◌≤◌, ◌<◌, Bool, true, false, cond, List, [], length, leb, Result, Ok, Err}
 use Rattle.std.proofs.Math.Option.{Option, none, some}
 use Rattle.definitions.specs.Lists.{product_of}
 use Rattle.definitions.specs.Problem.Node.{nodes_at}
 use Rattle.definitions.specs.Logic.{Interpretation, values, truth_at, holds, holds_at}
 use Rattle.definitions.specs.Elimination.{eliminated, table_of, root_of}
 use Rattle.definitions.specs.Verdict.{Outcome, valid, falsified, stopped}
+use Rattle.definitions.specs.declared.Refusal.{Refusal}
+use Rattle.definitions.specs.declared.Verdict.{Verdict}
 use Rattle.definitions.specs.declared.Decision.{Decision}
 
 -- some interpretation makes the formula false; and that at a named root
@@ -42,12 +44,23 @@ abbrev pub tried_within : ℕ → ℕ → Option ℕ → ℕ
 tried_within budget product (some place) = cond (leb place budget) place (min budget product)
 tried_within budget product none = min budget product
 
+-- decide's answers that are no refusal, each with the count tried and the product; falsified has the witness's length too
+abbrev pub with_verdict : Verdict → ℕ → ℕ → Result Decision Refusal
+with_verdict verdict tried product = Ok (record { verdict = verdict; tried = tried; product = product })
+
+abbrev pub valid_answer : ℕ → ℕ → Result Decision Refusal
+valid_answer tried product = with_verdict Verdict.Valid tried product
+
+abbrev pub falsified_answer : ℕ → ℕ → ℕ → Result Decision Refusal
+falsified_answer tried product written = with_verdict (Verdict.Falsified written) tried product
+
+abbrev pub stopped_answer : ℕ → ℕ → Result Decision Refusal
+stopped_answer tried product = with_verdict Verdict.Stopped tried product
+
 -- the count that an answer gives; a refusal has none
-abbrev pub tried_of : Decision → ℕ
-tried_of (Decision.Valid tried product) = tried
-tried_of (Decision.Falsified tried product written) = tried
-tried_of (Decision.Stopped tried product) = tried
-tried_of (Decision.Refused x) = 0
+abbrev pub tried_of : Result Decision Refusal → ℕ
+tried_of (Ok d) = d.tried
+tried_of (Err x) = 0
 
 -- counted from 0, the places of so many sizes are those below their product
 abbrev pub IsPlace : List ℕ → ℕ → Type 0

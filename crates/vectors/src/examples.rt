@@ -1,5 +1,6 @@
 // Formulas beside document 01's rows: document 004's two, and forms that no row has.
-use crate::draft::{Draft, Each};
+use crate::draft::Draft;
+use problem::ops::Op;
 
 // Document 004, Ackermann's reduction: not x1 = x2, or F(x1) = F(x2), or not F(x1) = F(x3)
 pub fn ackermann() -> Draft {
@@ -12,12 +13,12 @@ pub fn ackermann() -> Draft {
         .variable(1)
         .equation(0, 1)
         .negation(2)
-        .applied(3, 0)
-        .applied(3, 1)
+        .applied(3, [0, 0, 0])
+        .applied(3, [1, 0, 0])
         .equation(4, 5)
         .disjunction(3, 6)
         .variable(2)
-        .applied(3, 8)
+        .applied(3, [8, 0, 0])
         .equation(4, 9)
         .negation(10)
         .disjunction(7, 11)
@@ -37,16 +38,16 @@ pub fn power() -> Draft {
         .variable(1)
         .equation(0, 1)
         .variable(2)
-        .node(0, 3, 0, 1, 0)
+        .applied(3, [0, 1, 0])
         .equation(3, 4)
         .conjunction(2, 5)
         .variable(4)
-        .node(0, 3, 3, 1, 0)
+        .applied(3, [3, 1, 0])
         .equation(7, 8)
         .conjunction(6, 9)
         .variable(5)
-        .node(0, 3, 1, 1, 0)
-        .node(0, 3, 12, 1, 0)
+        .applied(3, [1, 1, 0])
+        .applied(3, [12, 1, 0])
         .equation(11, 13)
         .conjunction(10, 14)
         .negation(15)
@@ -60,8 +61,8 @@ pub fn repeat() -> Draft {
         .symbol(0)
         .symbol(1)
         .variable(0)
-        .applied(1, 0)
-        .applied(1, 0)
+        .applied(1, [0, 0, 0])
+        .applied(1, [0, 0, 0])
         .equation(1, 2)
 }
 
@@ -73,8 +74,8 @@ pub fn three_arguments() -> Draft {
         .symbol(3)
         .variable(0)
         .variable(1)
-        .node(0, 2, 0, 1, 0)
-        .node(0, 2, 1, 0, 1)
+        .applied(2, [0, 1, 0])
+        .applied(2, [1, 0, 1])
         .equation(2, 3)
 }
 
@@ -86,12 +87,12 @@ pub fn predicates() -> Draft {
         .symbol(0)
         .symbol(19)
         .variable(0)
-        .node(6, 1, 0, 0, 0)
+        .tested(1, [0, 0, 0])
         .variable(2)
-        .node(6, 3, 0, 2, 2)
-        .node(6, 3, 2, 0, 0)
-        .node(9, 0, 1, 3, 4)
-        .node(6, 1, 2, 0, 0)
+        .tested(3, [0, 2, 2])
+        .tested(3, [2, 0, 0])
+        .node(Op::Select, 0, [1, 3, 4])
+        .tested(1, [2, 0, 0])
         .negation(6)
         .disjunction(5, 7)
 }
@@ -100,13 +101,13 @@ pub fn predicates() -> Draft {
 // them: as many applications as there may be.
 pub fn longest_witness() -> Draft {
     Draft::new()
-        .run(Each::Symbol(0), 0, 15)
-        .run(Each::Symbol(16), 0, 16)
+        .run(0..15, |draft, _| draft.symbol(0))
+        .run(0..16, |draft, _| draft.symbol(16))
         .symbol(1)
-        .run(Each::Variable, 0, 15)
-        .run(Each::Function(31), 0, 9)
-        .run(Each::Same, 0, 24)
-        .run(Each::TruthVariable, 15, 31)
-        .run(Each::Or, 24, 63)
+        .run(0..15, Draft::variable)
+        .run(0..9, |draft, x| draft.applied(31, [x, 0, 0]))
+        .run(0..24, Draft::same)
+        .run(15..31, Draft::truth_variable)
+        .run(24..63, Draft::or)
         .negation(102)
 }

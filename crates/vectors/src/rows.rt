@@ -36,8 +36,8 @@ pub fn row_4() -> Draft {
     x_and_y_with_f()
         .equation(0, 1)
         .negation(2)
-        .applied(2, 0)
-        .applied(2, 1)
+        .applied(2, [0, 0, 0])
+        .applied(2, [1, 0, 0])
         .equation(4, 5)
         .disjunction(3, 6)
 }
@@ -45,8 +45,8 @@ pub fn row_4() -> Draft {
 // not f(x) = f(y), or x = y
 pub fn row_5() -> Draft {
     x_and_y_with_f()
-        .applied(2, 0)
-        .applied(2, 1)
+        .applied(2, [0, 0, 0])
+        .applied(2, [1, 0, 0])
         .equation(2, 3)
         .negation(4)
         .equation(0, 1)
@@ -55,7 +55,10 @@ pub fn row_5() -> Draft {
 
 // f(x) = f(y)
 pub fn row_6() -> Draft {
-    x_and_y_with_f().applied(2, 0).applied(2, 1).equation(2, 3)
+    x_and_y_with_f()
+        .applied(2, [0, 0, 0])
+        .applied(2, [1, 0, 0])
+        .equation(2, 3)
 }
 
 // p or not p
@@ -95,8 +98,8 @@ pub fn row_11() -> Draft {
 pub fn row_12() -> Draft {
     x_and_y_with_f()
         .equation(0, 1)
-        .applied(2, 0)
-        .applied(2, 1)
+        .applied(2, [0, 0, 0])
+        .applied(2, [1, 0, 0])
         .equation(3, 4)
         .conjunction(2, 5)
         .negation(6)

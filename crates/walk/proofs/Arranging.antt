@@ -66,5 +66,9 @@ module _
             (level_operands s.variables s.truths t tab.free fast sizes k l);
       }
 
-  pub in_order : s.nodes ≤ length positions → InOrder positions s.nodes
-  in_order long = record { long = long; inside = inside; apart = one }
+  pub in_order : length positions ≡ s.nodes → InOrder positions
+  in_order long =
+      record {
+        inside = λ k h. let i = inside k (omega arith) in omega arith;
+        apart = λ j k g h e. one j k (omega arith) (omega arith) e;
+      }

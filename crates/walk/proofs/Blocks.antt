@@ -25,6 +25,7 @@ use Rattle.blocks.proofs.Moves.{step_digits}
 use Rattle.blocks.proofs.Blocks.{block_digits}
 use Rattle.blocks.proofs.Order.{pos_tail}
 use Rattle.blocks.proofs.Stays.{above_value}
+use Rattle.walk.specs.declared.branches.Branch.{Branch}
 use Rattle.walk.specs.Cells.{cell, Decoded, SolvedFrom, Constant, least_of, DigitsHeld, SlowLaid, LaneHolds}
 use Rattle.walk.specs.Digits.{Digits}
 use Rattle.walk.specs.Kept.{lane_digits, KeptFresh, FreshBefore}
@@ -93,7 +94,7 @@ module _ (S N : ℕ) (fast slow xs cells : List ℕ) (d : DigitsHeld S N fast sl
       }
 
 -- what is solved leaves the digits' cells as they are
-module _ (S N : ℕ) (fast slow xs bs before after : List ℕ) (from nodes : ℕ) (solved : SolvedFrom S bs from nodes before after) where
+module _ (S N : ℕ) (fast slow xs : List ℕ) (bs : List Branch) (before after : List ℕ) (from : ℕ) (solved : SolvedFrom S bs from before after) where
   low_cell : (c l : ℕ) → l < S → c < 42 → cell S after c l ≡ cell S before c l
   low_cell c l h g = solved.kept (S * c + l) (digit_cell S c (42 + from) l h (omega arith))
 
@@ -127,7 +128,8 @@ module _
     (room : product_of fast ≤ S)
     (pos : ℕ → ℕ)
     (inside : (k : ℕ) → k < shape.nodes → pos k < shape.nodes)
-    (bs : List ℕ)
+    (bs : List Branch)
+    (long : length bs ≡ shape.nodes)
     (decoded : Decoded S pos table shape bs shape.nodes) where
   abbrev nodes : ℕ
   nodes = shape.nodes
@@ -148,14 +150,14 @@ module _
       (lane_holds S N fast slow (digits_after slow q) cells d room l h (omega arith))
 
   -- THE LAW: where the nodes before the tail are fresh, and the tail is solved, the kept values equal values worked out afresh
-  pub block_fresh : (q from : ℕ) (before cells : List ℕ) → SolvedFrom S bs from nodes before cells → Constant S cells
+  pub block_fresh : (q from : ℕ) (before cells : List ℕ) → SolvedFrom S bs from before cells → Constant S cells
       → DigitsHeld S N fast slow (digits_after slow q) cells → FreshBefore table shape S pos fast slow q from before
       → KeptFresh table shape S pos fast slow q cells
   block_fresh q from before cells solved constant d early =
       record {
         fresh =
             λ k g l h.
-            kept_fresh tab pos inside S bs before cells from decoded solved constant l (omega arith) (lane_digits fast slow q l)
+            kept_fresh tab pos inside S bs long before cells from decoded solved constant l (omega arith) (lane_digits fast slow q l)
             (lane_all q cells d l h) (lane_digits_lem q l h) (λ j b e. early.fresh j b e l h) k g;
       }
 

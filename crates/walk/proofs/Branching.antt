@@ -1,15 +1,19 @@
 -- The nodes of a table as branches: what the code makes of a node's bytes is its branch, and a branch reads only cells that are
 -- there before it, since operands stand earlier in the order and there are few digits. Assumes nothing.
-use mathlib.Core.Path.{◌≡◌, refl, sym, ap, ap₂, ◌∙◌, subst}
+use mathlib.Core.Path.{◌≡◌, refl, sym, ap, ◌∙◌, subst}
 use Prim.Native.Nat.{ℕ, zero, suc, ◌+◌, ◌*◌, ◌≤◌, ◌<◌}
 use native.Mathlib.Omega.{arith}
 use native.Mathlib.Nat.{mul-le-mul_left}
 use mathlib.Core.List.{List, [], ◌∷◌}
 use mathlib.Core.Logic.{◌⊎◌, inl, inr}
-use lib.ListN.{take}
-use Rattle.definitions.specs.Bytes.{byte_at, two_at}
-use Rattle.definitions.specs.Problem.Node.{Node, node, node_at}
-use Rattle.definitions.specs.Problem.Ops.{op_of, operand_sorts, count_of, fields_of, operands_of}
+use lib.ListN.{length, get_or, take}
+use Rattle.definitions.specs.Problem.Node.{Node, node}
+use Rattle.definitions.specs.Problem.Ops.{Op, choose, select, op_of, operand_sorts, count_of, fields_of}
+use Rattle.problem.specs.Nodes.{node_read}
+use Rattle.problem.specs.Ops.{op_read}
+use Rattle.problem.specs.declared.put.Node as put
+use Rattle.problem.specs.declared.ops.Op as ops
+use Rattle.problem.specs.declared.ops.Op.TheVariants.{Choose, Select}
 use Rattle.theorems.proofs.Accepted.{length_nodes_at}
 use Rattle.theorems.proofs.Laws.Ops.{AllBelow}
 use Rattle.ranges.specs.Table.{TableIn, table_in}
@@ -17,8 +21,9 @@ use Rattle.ranges.specs.declared.Shape.{Shape}
 use Rattle.blocks.proofs.Depends.{Each, operands_at, operands_below}
 use Rattle.walk.specs.declared.branches.Branch.{Branch}
 use Rattle.walk.specs.Digits.{value_in}
-use Rattle.walk.specs.Cells.{one, where_true, branch_by, branch_of, cell_at, Decoded, Earlier, Ready, AllReady}
-use Rattle.walk.proofs.Values.{node_here, variable_named, truth_named}
+use Rattle.walk.specs.Cells.{one, where_true, scaled, branch_by, branch_of, branch_in, cell_at, Decoded, Earlier, Ready, AllReady}
+use Rattle.walk.specs.Reading.{InOrder}
+use Rattle.walk.proofs.Values.{variable_named, truth_named}
 
 -- a branch at position m reads cells before its own
 pub record BranchBefore (m : ℕ) (b : Branch) : Type 0 where
@@ -113,111 +118,68 @@ each_below : (Q : ℕ → Type 0) (k : ℕ) → ((j : ℕ) → j < k → Q j) �
 each_below Q k f [] b = tt
 each_below Q k f (j ∷ ks) b = (f j b.0, each_below Q k f ks b.1)
 
--- node k where it stands in the bytes: its operands in use, and its branch
+-- node k: its operands in use are earlier nodes, and so its branch reads cells of nodes
 module _ {bytes : List ℕ} {shape : Shape} (tab : TableIn bytes shape) (k : ℕ) (below : k < shape.nodes) where
-  abbrev there : Node
-  there = node_at bytes (8 * k)
-
-  node_there : node (table_in bytes shape.nodes) k ≡ there
-  node_there = node_here tab [] k below (value_in bytes shape []) (λ i h. refl)
+  abbrev here : Node
+  here = node (table_in bytes shape.nodes) k
 
   earlier_operands : AllBelow k (operands_at (table_in bytes shape.nodes) k)
   earlier_operands =
       let l = length_nodes_at bytes 0 shape.nodes in
       operands_below shape.variables shape.truths (table_in bytes shape.nodes) tab.free k (omega arith)
 
-  -- its operands in use are earlier nodes
-  pub operands_there : (op : ℕ) → byte_at bytes (8 * k) ≡ op → AllBelow k (take (count_of (operand_sorts (op_of op) 0)) (fields_of there))
-  operands_there op q =
-      subst (λ x. AllBelow k (take (count_of (operand_sorts (op_of x) 0)) (fields_of there))) q
-      (subst (λ (x : Node). AllBelow k (operands_of [] x)) node_there earlier_operands)
+  pub operands_there : (op : Op) → op_of here.op ≡ op → AllBelow k (take (count_of (operand_sorts op 0)) (fields_of here))
+  operands_there op q = subst (λ x. AllBelow k (take (count_of (operand_sorts x 0)) (fields_of here))) q earlier_operands
 
-  pub choice_operands : (byte_at bytes (8 * k) ≡ 1) ⊎ (byte_at bytes (8 * k) ≡ 9) → AllBelow k (fields_of there)
-  choice_operands q = elim q [ inl p ↦ operands_there 1 p | inr p ↦ operands_there 9 p ]
+  pub choice_operands : (op_of here.op ≡ choose) ⊎ (op_of here.op ≡ select) → AllBelow k (fields_of here)
+  choice_operands q = elim q [ inl p ↦ operands_there choose p | inr p ↦ operands_there select p ]
 
-  module _ (pos : ℕ → ℕ) (b : Branch) (is : b ≡ branch_of (cell_at pos) shape.variables there) where
-    pub branch_there : b ≡ branch_of (cell_at pos) shape.variables (node (table_in bytes shape.nodes) k)
-    branch_there = is ∙ ap (branch_of (cell_at pos) shape.variables) (sym node_there)
+  -- where every node's position is below their number, it reads cells of nodes
+  pub branch_inside : (pos : ℕ → ℕ) (b : Branch) → b ≡ branch_of (cell_at pos) shape.variables here
+      → ((j : ℕ) → j < shape.nodes → pos j < shape.nodes) → BranchBefore shape.nodes b
+  branch_inside pos b is inside =
+      subst (BranchBefore shape.nodes) (sym is)
+      (reads_before tab pos k below shape.nodes
+      (each_below (λ j. pos j < shape.nodes) k (λ j h. inside j (omega arith)) (operands_at (table_in bytes shape.nodes) k) earlier_operands))
 
-    -- where every node's position is below their number, it reads cells of nodes
-    pub branch_inside : ((j : ℕ) → j < shape.nodes → pos j < shape.nodes) → BranchBefore shape.nodes b
-    branch_inside inside =
-        subst (BranchBefore shape.nodes) (sym branch_there)
-        (reads_before tab pos k below shape.nodes
-        (each_below (λ j. pos j < shape.nodes) k (λ j h. inside j (omega arith)) (operands_at (table_in bytes shape.nodes) k) earlier_operands))
+-- an earlier node's position is there to read
+pub operand_there : {table positions : List ℕ} {s : Shape} → TableIn table s → InOrder positions → length positions ≡ s.nodes → (k : ℕ) → k < s.nodes
+    → (j : ℕ) → j < k → (j < length positions) × (get_or positions j 0 < 2632)
+operand_there tab o long k below j g =
+    let few = tab.few_nodes in
+    let i = o.inside j (omega arith) in
+    (omega arith, omega arith)
 
-earlier : (S m c at : ℕ) → at ≡ S * c → c < 42 + m → Earlier S m at
-earlier S m c at e h = let u : S * suc c ≤ S * (42 + m) = mul-le-mul_left S h in omega arith
+-- the op that the code reads is the node's
+pub op_read_is : (m : put.Node) (n : Node) (r x : ops.Op) → node_read m ≡ n → op_read r ≡ op_of m.op → r ≡ x → op_of n.op ≡ op_read x
+op_read_is m n r x e f g = ap (λ (y : Node). op_of y.op) (sym e) ∙ sym f ∙ ap op_read g
+
+-- the operands of a choice
+pub choice_there : {table positions : List ℕ} {s : Shape} (tab : TableIn table s) → InOrder positions → length positions ≡ s.nodes → (k : ℕ) → k < s.nodes
+    → (m : put.Node) → node_read m ≡ node (table_in table s.nodes) k → (r : ops.Op) → op_read r ≡ op_of m.op → (r ≡ Choose) ⊎ (r ≡ Select)
+    → (m.a < k) × (m.b < k) × (m.c < k)
+choice_there {table = table} {s = s} tab o long k below m e r f h =
+    let n = node (table_in table s.nodes) k in
+    let u =
+    choice_operands tab k below (elim h [ inl p ↦ inl (op_read_is m n r Choose e f p) | inr p ↦ inr (op_read_is m n r Select e f p) ])
+    in
+    let a = ap (λ (y : Node). y.a) e in
+    let b = ap (λ (y : Node). y.b) e in
+    let c = ap (λ (y : Node). y.c) e in
+    (omega arith, omega arith, omega arith)
+
+earlier : (S m c : ℕ) → c < 42 + m → Earlier S m (S * c)
+earlier S m c h = let u : S * suc c ≤ S * (42 + m) = mul-le-mul_left S h in omega arith
+
+-- a branch that reads cells before its own reads lanes before its own
+pub laid_before : (S m : ℕ) (b : Branch) → BranchBefore m b → Ready S m (scaled S b)
+laid_before S m b r =
+    record { left = earlier S m b.left r.left; right = earlier S m b.right r.right; same = earlier S m b.same r.same; apart = earlier S m b.apart r.apart }
 
 -- every position is ready: it is some node's
 pub all_ready : (S : ℕ) {bytes : List ℕ} {shape : Shape} (tab : TableIn bytes shape) (pos : ℕ → ℕ) → Ordering bytes shape.nodes pos
-    → (bs : List ℕ) → Decoded S pos bytes shape bs shape.nodes → AllReady S bs shape.nodes
-all_ready S {shape = shape} tab pos ordering bs d m h =
-    let w = ordering.onto m h in
-    subst (Ready S bs) w.2 (at_node w.0 w.1)
-  where
-    at_node : (k : ℕ) → k < shape.nodes → Ready S bs (pos k)
-    at_node k l =
-        let b = branch_before tab pos ordering k l in
-        let s = d.stored k l in
-        record {
-          left = earlier S (pos k) _ _ s.left_is b.left;
-          right = earlier S (pos k) _ _ s.right_is b.right;
-          same = earlier S (pos k) _ _ s.same_is b.same;
-          apart = earlier S (pos k) _ _ s.apart_is b.apart;
-        }
-
--- what the code makes of the bytes of a node, by its op
-module _ (table : List ℕ) (N at : ℕ) (pos : ℕ → ℕ) where
-  abbrev m : Node
-  m = node_at table at
-
-  of_op_lem : (op : ℕ) → byte_at table at ≡ op → branch_by (cell_at pos) N m (op_of op) ≡ branch_of (cell_at pos) N m
-  of_op_lem op q = ap (λ x. branch_by (cell_at pos) N m (op_of x)) (sym q)
-
-  pub as_variable : (s : ℕ) → s ≡ byte_at table (at + 1) → byte_at table at ≡ 0 → one (2 + s) ≡ branch_of (cell_at pos) N m
-  as_variable s e q = ap (λ x. one (2 + x)) e ∙ of_op_lem 0 q
-
-  pub as_choice : (a b c : ℕ) → a ≡ 42 + pos (two_at table (at + 2)) → b ≡ 42 + pos (two_at table (at + 4)) → c ≡ 42 + pos (two_at table (at + 6))
-      → (byte_at table at ≡ 1) ⊎ (byte_at table at ≡ 9) → where_true a b c ≡ branch_of (cell_at pos) N m
-  as_choice a b c x y z q =
-      ap (λ i. where_true i b c) x ∙ ap₂ (λ i j. where_true (42 + pos m.a) i j) y z ∙ elim q [ inl p ↦ of_op_lem 1 p | inr p ↦ of_op_lem 9 p ]
-
-  pub as_equal : (a b : ℕ) → a ≡ 42 + pos (two_at table (at + 2)) → b ≡ 42 + pos (two_at table (at + 4)) → byte_at table at ≡ 2
-      → record { left = a; right = b; same = 1; apart = 0 } ≡ branch_of (cell_at pos) N m
-  as_equal a b x y q = ap₂ (λ i j. record { left = i; right = j; same = 1; apart = 0 }) x y ∙ of_op_lem 2 q
-
-  pub as_not : (a : ℕ) → a ≡ 42 + pos (two_at table (at + 2)) → byte_at table at ≡ 3 → where_true a 0 1 ≡ branch_of (cell_at pos) N m
-  as_not a x q = ap (λ i. where_true i 0 1) x ∙ of_op_lem 3 q
-
-  pub as_and : (a b : ℕ) → a ≡ 42 + pos (two_at table (at + 2)) → b ≡ 42 + pos (two_at table (at + 4)) → byte_at table at ≡ 4 → where_true a b 0 ≡ branch_of (cell_at pos) N m
-  as_and a b x y q = ap₂ (λ i j. where_true i j 0) x y ∙ of_op_lem 4 q
-
-  pub as_or : (a b : ℕ) → a ≡ 42 + pos (two_at table (at + 2)) → b ≡ 42 + pos (two_at table (at + 4)) → byte_at table at ≡ 5 → where_true a 1 b ≡ branch_of (cell_at pos) N m
-  as_or a b x y q = ap₂ (λ i j. where_true i 1 j) x y ∙ of_op_lem 5 q
-
-  pub as_truth : (s : ℕ) → s ≡ byte_at table (at + 1) → byte_at table at ≡ 6 → one (2 + (N + s)) ≡ branch_of (cell_at pos) N m
-  as_truth s e q = ap (λ x. one (2 + (N + x))) e ∙ of_op_lem 6 q
-
-  pub as_yes : byte_at table at ≡ 7 → one 1 ≡ branch_of (cell_at pos) N m
-  as_yes q = of_op_lem 7 q
-
-  no_more : (op : ℕ) → (op ≡ 0 → ⊥) → ((op ≡ 1) ⊎ (op ≡ 9) → ⊥) → (op ≡ 2 → ⊥) → (op ≡ 3 → ⊥) → (op ≡ 4 → ⊥) → (op ≡ 5 → ⊥) → (op ≡ 6 → ⊥)
-      → (op ≡ 7 → ⊥) → one 0 ≡ branch_by (cell_at pos) N m (op_of op)
-  no_more zero a b c d e f g h = absurd (a refl)
-  no_more (suc zero) a b c d e f g h = absurd (b (inl refl))
-  no_more (suc (suc zero)) a b c d e f g h = absurd (c refl)
-  no_more (suc (suc (suc zero))) a b c d e f g h = absurd (d refl)
-  no_more (suc (suc (suc (suc zero)))) a b c d e f g h = absurd (e refl)
-  no_more (suc (suc (suc (suc (suc zero))))) a b c d e f g h = absurd (f refl)
-  no_more (suc (suc (suc (suc (suc (suc zero)))))) a b c d e f g h = absurd (g refl)
-  no_more (suc (suc (suc (suc (suc (suc (suc zero))))))) a b c d e f g h = absurd (h refl)
-  no_more (suc (suc (suc (suc (suc (suc (suc (suc zero)))))))) a b c d e f g h = refl
-  no_more (suc (suc (suc (suc (suc (suc (suc (suc (suc zero))))))))) a b c d e f g h = absurd (b (inr refl))
-  no_more (suc (suc (suc (suc (suc (suc (suc (suc (suc (suc op)))))))))) a b c d e f g h = refl
-
-  -- false, and what is no op
-  pub as_rest : (byte_at table at ≡ 0 → ⊥) → ((byte_at table at ≡ 1) ⊎ (byte_at table at ≡ 9) → ⊥) → (byte_at table at ≡ 2 → ⊥)
-      → (byte_at table at ≡ 3 → ⊥) → (byte_at table at ≡ 4 → ⊥) → (byte_at table at ≡ 5 → ⊥) → (byte_at table at ≡ 6 → ⊥)
-      → (byte_at table at ≡ 7 → ⊥) → one 0 ≡ branch_of (cell_at pos) N m
-  as_rest = no_more (byte_at table at)
+    → (bs : List Branch) → length bs ≡ shape.nodes → Decoded S pos bytes shape bs shape.nodes → AllReady S bs
+all_ready S tab pos ordering bs long d m h =
+    let w = ordering.onto m (omega arith) in
+    subst (λ x. Ready S x (branch_in bs x)) w.2
+    (subst (Ready S (pos w.0)) (sym (d.stored w.0 w.1).is) (laid_before S (pos w.0) _ (branch_before tab pos ordering w.0 w.1)))

@@ -1,35 +1,28 @@
 -- What the walk needs at its calls: room in the arrays, branches that read only what stands before them, and where a tail begins.
 -- Assumes nothing.
-use mathlib.Core.Path.{◌≡◌, ap, ◌∙◌, subst}
-use Prim.Native.Nat.{ℕ, ◌+◌, ◌*◌, ◌≤◌, ◌<◌}
+use mathlib.Core.Path.{◌≡◌}
+use Prim.Native.Nat.{ℕ, ◌+◌, ◌*◌, ◌≤◌, ◌<◌, min}
 use native.Mathlib.Nat.{mul-le-mul_left}
 use native.Mathlib.Omega.{arith}
-use mathlib.Core.Bool.{false}
 use mathlib.Core.List.{List}
 use mathlib.Core.Logic.{inl, inr}
 use lib.ListN.{length, get_or, take}
 use Rattle.theorems.proofs.Laws.Tests.{split}
-use Rattle.ranges.specs.Table.{TableIn}
-use Rattle.ranges.specs.declared.Shape.{Shape}
-use Rattle.blocks.specs.Order.{start_of}
-use Rattle.order.specs.Order.{level_in, Arranged}
-use Rattle.walk.specs.Cells.{AllReady, Decoded, SlowLaid, FirstLane}
-use Rattle.walk.specs.Digits.{Turning, NextIs, SlowIs, PartsAre, fast_of}
-use Rattle.walk.specs.Keeping.{Setting, Walking, Begins}
+use Rattle.walk.specs.Cells.{AllReady, SlowLaid}
+use Rattle.walk.specs.declared.branches.Branch.{Branch}
+use Rattle.walk.specs.Digits.{Turning, SlowIs, fast_of}
+use Rattle.walk.specs.Keeping.{Setting, Begins}
 use Rattle.walk.specs.Laid.{LanesReady}
 use Rattle.walk.specs.Reading.{positions_in}
-use Rattle.walk.specs.Walked.{RootIn, Starts}
 use Rattle.walk.specs.declared.Begun.{Begun}
 use Rattle.walk.specs.declared.Plan.{Plan}
 use Rattle.walk.specs.declared.odometer.Odometer.{Odometer}
-use Rattle.walk.specs.declared.odometer.Step.{Step}
-use Rattle.walk.specs.declared.split.Parts.{Parts}
 use Rattle.walk.proofs.Arranging.{ordering}
 use Rattle.walk.proofs.Branching.{all_ready}
 use Rattle.walk.proofs.Carrying.{digit_in_range}
-use Rattle.walk.proofs.Solving.{place_fits}
-use Rattle.walk.proofs.Going.{sets_out, count_length}
-use Rattle.walk.proofs.Walking.{count_is, slow_length}
+use Rattle.walk.proofs.Solving.{place_fits, place_small}
+use Rattle.walk.proofs.Going.{sets_out}
+use Rattle.walk.proofs.Walking.{inside, lanes_few}
 
 -- a digit and 1 more are a byte
 pub digits_small : (o : Odometer) → Turning o → (v : ℕ) → get_or o.digits v 0 + 1 < 256
@@ -51,45 +44,39 @@ pub lanes_fit : (S m nodes n at many lanes : ℕ) → at ≡ S * (42 + m) → m 
 lanes_fit S m nodes n at many lanes e h long few fit = let u = place_fits S m nodes n at e h long in omega arith
 
 -- everything is ready for the first block
-pub begins_with : (table : List ℕ) (plan : Plan) (o : Odometer) (positions bs mid cells : List ℕ) (r : Begun)
-    → TableIn table plan.shape → RootIn table plan.shape plan.root
-    → Starts plan.shape o → PartsAre o plan.shape.nodes plan.parts
-    → Arranged table plan.shape plan.parts.fast (take (plan.shape.variables + plan.shape.truths) o.sizes) positions r.starts
-    → Decoded (16 * plan.parts.chunks) (positions_in positions) table plan.shape bs plan.shape.nodes
-    → SlowIs o plan.parts.fast r.slow → LanesReady (16 * plan.parts.chunks) plan.shape.variables (fast_of o plan.parts) mid
-    → SlowLaid (16 * plan.parts.chunks) plan.shape.variables plan.parts.fast r.slow.digits r.slow.count mid cells
-    → r.root ≡ 16 * plan.parts.chunks * (42 + positions_in positions plan.root) → Begins table plan o positions bs cells r
-begins_with table plan o positions bs mid cells r tab root st pa ar de sl lr la e =
+pub begins_with : (plan : Plan) (positions : List ℕ) (bs : List Branch) (mid cells : List ℕ) (r : Begun) → Setting plan positions r.starts bs
+    → SlowIs plan.start plan.parts.fast r.slow → LanesReady (16 * plan.parts.chunks) plan.table.shape.variables (fast_of plan.start plan.parts) mid
+    → SlowLaid (16 * plan.parts.chunks) plan.table.shape.variables plan.parts.fast r.slow.digits r.slow.count mid cells
+    → r.root ≡ 16 * plan.parts.chunks * (42 + positions_in positions plan.root) → Begins plan positions bs cells r
+begins_with plan positions bs mid cells r set sl lr la e =
     record {
       setting = set;
-      walking = λ budget. sets_out table plan.shape plan.root o plan.parts positions r.starts bs set budget r.slow sl mid cells lr la;
+      walking = λ budget. sets_out plan positions r.starts bs set budget r.slow sl mid cells lr la;
       root_is = e;
     }
-  where
-    set : Setting table plan.shape plan.root o plan.parts positions r.starts bs
-    set = record { table_in_is = tab; root_in = root; begins = st; parts_are = pa; arranged = ar; decoded = de }
 
--- the root's lanes begin where the code says
-pub root_found : (cells : List ℕ) (at at' many lane : ℕ) → at ≡ at' → FirstLane cells at many lane → FirstLane cells at' many lane
-root_found cells at at' many lane e f = subst (λ a. FirstLane cells a many lane) e f
-
-module _ (table : List ℕ) (s : Shape) (root : ℕ) (o : Odometer) (p : Parts) (positions starts bs : List ℕ) (set : Setting table s root o p positions starts bs) where
-  pub ready_all : AllReady (16 * p.chunks) bs s.nodes
+module _ (plan : Plan) (positions starts : List ℕ) (bs : List Branch) (set : Setting plan positions starts bs) where
+  pub ready_all : AllReady (16 * plan.parts.chunks) bs
   ready_all =
-      all_ready (16 * p.chunks) set.table_in_is (positions_in positions)
-      (ordering table s set.table_in_is p.fast (take (s.variables + s.truths) o.sizes) positions starts set.arranged) bs set.decoded
+      all_ready (16 * plan.parts.chunks) plan.table.well_formed (positions_in positions)
+      (ordering plan.table.bytes.now plan.table.shape plan.table.well_formed plan.parts.fast (take (plan.table.shape.variables + plan.table.shape.truths) plan.start.sizes) positions starts set.arranged) bs
+      set.branches_long set.decoded
 
-  module _ (budget : ℕ) (cells : List ℕ) (now : Odometer) (tried from q : ℕ) (w : Walking table s root o p positions bs budget cells now tried from q)
-      (step : Step) (n : NextIs now step) (e : step.ended ≡ false) where
-    -- the digit that turned is one of them
-    pub turned_few : (p.fast + step.turned < s.variables + s.truths) × (p.fast + step.turned < 40)
-    turned_few =
-        let a = n.not_end e in
-        let b = count_length now w.turns ∙ ap length w.sizes_are ∙ slow_length table s root o p positions starts bs set in
-        let c = count_is table s root o p positions starts bs set in
-        let f = set.begins.turning.few in
-        (omega arith, omega arith)
+-- the lanes of the root's cell that are looked at are among the cells, and not far on
+module _ {plan : Plan} {positions : List ℕ} {bs : List Branch} {first : List ℕ} {begun : Begun} (b : Begins plan positions bs first begun) where
+  root_inside : positions_in positions plan.root < plan.table.shape.nodes
+  root_inside = inside plan positions begun.starts bs b.setting plan.root b.setting.planned.root_in.below
 
-    pub tail_start : get_or starts (p.fast + step.turned) 0
-        ≡ start_of (level_in table s p.fast (take (s.variables + s.truths) o.sizes)) s.nodes (p.fast + step.turned)
-    tail_start = set.arranged.starts_at (p.fast + step.turned) (omega arith) turned_few.0
+  pub root_fits : (left many : ℕ) (cells : List ℕ) → many ≡ min left plan.parts.lanes → 16 * plan.parts.chunks * (42 + plan.table.shape.nodes) ≤ length cells
+      → begun.root + many ≤ length cells
+  root_fits left many cells e room =
+      lanes_fit (16 * plan.parts.chunks) _ plan.table.shape.nodes _ _ _ plan.parts.lanes b.root_is root_inside room (lanes_few _ _ _ e).0
+      b.setting.planned.parts_are.parted.lanes_fit
+
+  pub root_small : begun.root ≤ 342272
+  root_small =
+      let few = b.setting.planned.parts_are.parted.chunks_few in
+      let low = root_inside in
+      let e = b.root_is in
+      let u = place_small (16 * plan.parts.chunks) _ plan.table.shape.nodes (omega arith) (let v : positions_in positions plan.root ≤ plan.table.shape.nodes = omega arith in v) plan.table.well_formed.few_nodes in
+      omega arith

@@ -2,7 +2,7 @@
 use mathlib.Core.Path.{◌≡◌, refl, sym, ◌∙◌, subst}
 use Prim.Native.Nat.{ℕ, suc, ◌+◌, ◌≤◌, ◌<◌}
 use native.Mathlib.Omega.{arith}
-use mathlib.Core.Bool.{true, false, false≢true}
+use Rattle.std.specs.Prelude.{Option, Some, None}
 use mathlib.Core.List.{List}
 use mathlib.Core.Logic.{inl, inr}
 use lib.ListN.{length, get_or, take, set, length-set}
@@ -44,6 +44,13 @@ begins o t =
       kept = λ j h. refl;
       tops = λ j h. absurd (omega arith);
     }
+
+-- the sizes and the count that stand for those of the odometer
+pub with_arrays : (o : Odometer) (ds sizes : List ℕ) (count : ℕ) (turned : Option ℕ) → sizes ≡ o.sizes → count ≡ o.count
+    → NextIs o (record { digits = ds; sizes = o.sizes; count = o.count }) turned → NextIs o (record { digits = ds; sizes = sizes; count = count }) turned
+with_arrays o ds sizes count turned s n r =
+    subst (λ xs. NextIs o (record { digits = ds; sizes = xs; count = count }) turned) (sym s)
+    (subst (λ m. NextIs o (record { digits = ds; sizes = o.sizes; count = m }) turned) (sym n) r)
 
 module _ (o : Odometer) (i : ℕ) (ds : List ℕ) (c : Carrying o i ds) where
   abbrev t : Turning o
@@ -111,7 +118,7 @@ module _ (o : Odometer) (i : ℕ) (ds : List ℕ) (c : Carrying o i ds) where
 
   -- digit i turns
   pub turned : i < o.count → get_or ds i 0 + 1 < get_or o.sizes i 0
-      → NextIs o (record { odometer = record { digits = set ds i (get_or ds i 0 + 1); sizes = o.sizes; count = o.count }; turned = i; ended = false })
+      → NextIs o (record { digits = set ds i (get_or ds i 0 + 1); sizes = o.sizes; count = o.count }) (Some i)
   turned h turn =
       let es = set ds i (get_or ds i 0 + 1) in
       let few = t.few in
@@ -144,9 +151,7 @@ module _ (o : Odometer) (i : ℕ) (ds : List ℕ) (c : Carrying o i ds) where
             next_turns i (sizes_in o) (digits_of o) (take o.count es)
             (carried es long i (omega arith) c.tops (λ j l. there j (λ q. omega arith) ∙ c.zeros j l)) (omega arith) (omega arith) (omega arith)
             (λ j l. pointwise es j l there);
-        turned_is = sym (turning_at (sizes_in o) (digits_of o) lengths i (omega arith) (carried es long i (omega arith) c.tops (λ j l. there j (λ q. omega arith) ∙ c.zeros j l)).tops (omega arith));
-        at_end = λ e. absurd (false≢true e);
-        not_end = λ _. h;
+        turned_is = (sym (turning_at (sizes_in o) (digits_of o) lengths i (omega arith) (carried es long i (omega arith) c.tops (λ j l. there j (λ q. omega arith) ∙ c.zeros j l)).tops (omega arith)), h);
       }
     where
       pointwise : (es : List ℕ) (j : ℕ) → i < j → ((j : ℕ) → (j ≡ i → ⊥) → get_or es j 0 ≡ get_or ds j 0) → get_or (take o.count es) j 0 ≡ get_or (digits_of o) j 0
@@ -162,7 +167,7 @@ module _ (o : Odometer) (i : ℕ) (ds : List ℕ) (c : Carrying o i ds) where
           past_end xs j b = lib.ListN.get_or-eq_default (take o.count xs) 0 (let m = lib.ListN.length-take o.count xs in omega arith)
 
   -- every digit was at its top
-  pub wrapped : o.count ≤ i → NextIs o (record { odometer = record { digits = ds; sizes = o.sizes; count = o.count }; turned = o.count; ended = true })
+  pub wrapped : o.count ≤ i → NextIs o (record { digits = ds; sizes = o.sizes; count = o.count }) None
   wrapped h =
       let l = c.inside in
       let e : i ≡ o.count = omega arith in
@@ -175,13 +180,10 @@ module _ (o : Odometer) (i : ℕ) (ds : List ℕ) (c : Carrying o i ds) where
             (subst (λ m. Carried m (sizes_in o) (digits_of o) (take o.count ds)) (e ∙ sym (sizes_length ds c.long))
             (carried ds c.long i l c.tops c.zeros));
         turned_is =
-            sym
-            (turning_none (sizes_in o) (digits_of o) (old_length ds c.long ∙ sym (sizes_length ds c.long))
+            turning_none (sizes_in o) (digits_of o) (old_length ds c.long ∙ sym (sizes_length ds c.long))
             (subst (λ m. Carried m (sizes_in o) (digits_of o) (take o.count ds)) (e ∙ sym (sizes_length ds c.long))
             (carried ds c.long i l c.tops c.zeros)).tops
-            ∙ sizes_length ds c.long);
-        at_end = λ _. refl;
-        not_end = λ e. absurd (false≢true (sym e));
+            ∙ sizes_length ds c.long;
       }
 
   -- digit i goes back to 0, and the next one is looked at

@@ -3,11 +3,11 @@ use mathlib.Core.Path.{◌≡◌, refl, sym, ap, ◌∙◌, subst}
 use Prim.Native.Nat.{ℕ, zero, suc, ◌+◌, ◌*◌, ◌/◌, ◌%◌, ◌≤◌, ◌<◌}
 use native.Mathlib.Omega.{arith}
 use native.Mathlib.Numerals.{add-one}
-use native.Mathlib.Nat.{mul-le-mul_left, mod-lt, div-one, div-add-mod', div-div-eq-div-mul, mul-mod_right, one-le-mul, le-mul_of_pos_right}
+use native.Mathlib.Nat.{mul-le-mul_left, mod-lt, mod_self, div-one, div-add-mod', div-div-eq-div-mul, mul-mod_right, one-le-mul, le-mul_of_pos_right}
 use mathlib.Core.List.{List, [], ◌∷◌}
-use mathlib.Core.Logic.{inl, inr}
+use mathlib.Core.Logic.{◌⊎◌, inl, inr}
 use lib.ListN.{length, get_or, take, drop, take-append-drop}
-use lib.Seq.{take-suc, take-take, length-take-le, drop-cons, get_or-take}
+use lib.Seq.{take-suc, take-take, length-take-le, drop-cons}
 use Rattle.definitions.specs.Lists.{product_of}
 use Rattle.definitions.specs.Places.{digits_after}
 use Rattle.theorems.proofs.Search.Places.{Positive, split_digits, product_positive, product_of_append}
@@ -17,16 +17,12 @@ use Rattle.walk.specs.Digits.{Turning, Parted, sizes_in, fast_of}
 use Rattle.walk.specs.Laid.{DigitLaid, FastLaid, LanesReady}
 use Rattle.walk.specs.declared.odometer.Odometer.{Odometer}
 use Rattle.walk.specs.declared.split.Parts.{Parts}
+use Rattle.walk.proofs.Slowing.{positive_drop}
 
 positive_take : (n : ℕ) (xs : List ℕ) → Positive xs → Positive (take n xs)
 positive_take zero xs p = tt
 positive_take (suc n) [] p = tt
 positive_take (suc n) (x ∷ xs) p = (p.0, positive_take n xs p.1)
-
-positive_drop : (n : ℕ) (xs : List ℕ) → Positive xs → Positive (drop n xs)
-positive_drop zero xs p = p
-positive_drop (suc n) [] p = tt
-positive_drop (suc n) (x ∷ xs) p = positive_drop n xs p.1
 
 divided : (s : ℕ) (ss : List ℕ) → 1 ≤ s → (p : ℕ) → digits_after (s ∷ ss) p ≡ p % s ∷ digits_after ss (p / s)
 divided s ss h p = ap (digits_after (s ∷ ss)) (sym (div-add-mod' p s)) ∙ split_digits s ss (p / s) (p % s) (mod-lt p h)
@@ -84,9 +80,6 @@ module _ (fast : List ℕ) (good : Positive fast) (v : ℕ) (h : v < length fast
       ∙ ap product_of (sym (take-suc fast v 0 h))
       ∙ ap (λ n. product_of (take n fast)) (sym (add-one v))
 
-pub fast_none : (S N : ℕ) (fast cells : List ℕ) → FastLaid S N fast 0 cells cells
-fast_none S N fast cells = record { laid = λ v h. absurd (omega arith); outside = λ i h. refl }
-
 module _ (S N : ℕ) (fast : List ℕ) (good : Positive fast) (v : ℕ) (h : v < length fast) (fits : product_of fast ≤ S) (before cells after : List ℕ)
     (f : FastLaid S N fast v before cells) (lanes run size least : ℕ) (lanes_are : lanes ≡ product_of fast)
     (run_is : run ≡ product_of (take v fast)) (size_is : size ≡ get_or fast v 0) (least_is : least ≡ least_of N v)
@@ -141,6 +134,22 @@ lanes_ready S N fast k e c₀ c₁ c₂ c₃ a b f =
       fast_held = λ v h. f.laid v (omega arith);
     }
 
+-- a digit of a single value is the same whatever its runs
+other_run : (at lanes same run size least : ℕ) (before after : List ℕ) → (size ≡ 1) ⊎ (same ≡ run) → DigitLaid at lanes same size least before after
+    → DigitLaid at lanes run size least before after
+other_run at lanes same run size least before after (inr e) d = subst (λ r. DigitLaid at lanes r size least before after) e d
+other_run at lanes same run size least before after (inl e) d =
+    record {
+      inside =
+          λ l h.
+          d.inside l h
+          ∙ (let a = mod-lt (l / same) {m = size} (omega arith) in
+          let b = mod-lt (l / run) {m = size} (omega arith) in
+          let q : l / same % size + least ≡ l / run % size + least = omega arith in
+          q);
+      outside = d.outside;
+    }
+
 -- the sizes of the fast digits, as the code has them
 module _ (o : Odometer) (p : Parts) (t : Turning o) (q : Parted o p) where
   pub fast_are : take p.fast o.sizes ≡ fast_of o p
@@ -170,24 +179,29 @@ module _ (o : Odometer) (p : Parts) (t : Turning o) (q : Parted o p) where
     below : v < length fast
     below = let e = fast_length in omega arith
 
-    pub size_is : get_or o.sizes v 0 ≡ get_or fast v 0
-    size_is = sym (get_or-take p.fast o.sizes v 0 h)
-
-    pub digit_fits : (1 ≤ run) × (run ≤ 128) × (p.lanes ≤ 128) × (p.lanes % run ≡ 0) × (1 ≤ get_or o.sizes v 0)
+    pub digit_fits : (1 ≤ run) × (run ≤ 128) × (p.lanes ≤ 128) × (p.lanes % run ≡ 0) × (1 ≤ get_or fast v 0)
     digit_fits =
         let lanes = fast_product in
         let a = q.lanes_fit in
         let b = q.chunks_few in
-        let e = size_is in
         let some = run_some fast fast_positive v below in
-        let small = run_small fast fast_positive v below in
-        let size = size_some fast fast_positive v below in (
+        let small = run_small fast fast_positive v below in (
           omega arith,
           omega arith,
           omega arith,
           ap (λ x. x % run) lanes ∙ ap (λ x. product_of fast % x) run_is ∙ run_whole fast fast_positive v below,
-          omega arith,
+          size_some fast fast_positive v below,
         )
+
+    -- it may be laid in runs of all lanes, too
+    pub laid_fits : (same : ℕ) → (same ≡ p.lanes) ⊎ (same ≡ run) → (1 ≤ same) × (same ≤ 128) × (p.lanes % same ≡ 0)
+    laid_fits same h =
+        let some = q.lanes_some in
+        let f = digit_fits in
+        elim h [
+          | inl e ↦ (omega arith, omega arith, ap (λ x. p.lanes % x) e ∙ mod_self p.lanes)
+          | inr e ↦ (omega arith, omega arith, ap (λ x. p.lanes % x) e ∙ f.3)
+        ]
 
     pub digit_room : 16 * p.chunks * (2 + v) + p.lanes + 15 ≤ 16 * p.chunks * 43
     digit_room =
@@ -200,14 +214,14 @@ module _ (o : Odometer) (p : Parts) (t : Turning o) (q : Parted o p) where
         let e : S * (4 + v) ≡ S * (2 + v) + S + S = omega arith in
         omega arith
 
-    pub run_after : (size : ℕ) → size ≡ get_or o.sizes v 0 → run * size ≡ product_of (take (v + 1) fast)
-    run_after size e = ap (λ x. x * size) run_is ∙ ap (λ x. product_of (take v fast) * x) (e ∙ size_is) ∙ run_next fast fast_positive v below
+    pub run_after : (size : ℕ) → size ≡ get_or fast v 0 → run * size ≡ product_of (take (v + 1) fast)
+    run_after size e = ap (λ x. x * size) run_is ∙ ap (λ x. product_of (take v fast) * x) e ∙ run_next fast fast_positive v below
 
     pub digit_more : (N : ℕ) (before cells after : List ℕ) → FastLaid (16 * p.chunks) N fast v before cells → (least : ℕ) → least ≡ least_of N v
-        → DigitLaid (16 * p.chunks * (2 + v)) p.lanes run (get_or o.sizes v 0) least cells after
+        → (same : ℕ) → (get_or fast v 0 ≡ 1) ⊎ (same ≡ run) → DigitLaid (16 * p.chunks * (2 + v)) p.lanes same (get_or fast v 0) least cells after
         → FastLaid (16 * p.chunks) N fast (v + 1) before after
-    digit_more N before cells after f least e d =
+    digit_more N before cells after f least e same h d =
         let lanes = fast_product in
         let a = q.lanes_fit in
-        fast_more (16 * p.chunks) N fast fast_positive v below (omega arith) before cells after f p.lanes run (get_or o.sizes v 0) least
-        lanes run_is size_is e d
+        fast_more (16 * p.chunks) N fast fast_positive v below (omega arith) before cells after f p.lanes run (get_or fast v 0) least
+        lanes run_is refl e (other_run _ _ _ _ _ _ _ _ h d)

@@ -7,16 +7,17 @@ use native.Mathlib.Omega.{arith}
 use native.Mathlib.Nat.{mul-le-mul_left}
 use mathlib.Core.List.{List}
 use mathlib.Core.Logic.{inl, inr}
-use lib.ListN.{get_or}
+use lib.ListN.{length}
 use Rattle.definitions.specs.Problem.Node.{Node, node}
 use Rattle.definitions.specs.Problem.Ops.{op_of}
 use Rattle.theorems.proofs.Laws.Tests.{split}
 use Rattle.ranges.specs.Table.{TableIn, table_in}
 use Rattle.ranges.specs.declared.Shape.{Shape}
 use Rattle.walk.specs.declared.branches.Branch.{Branch}
+use Rattle.walk.specs.Cells.{takes as lane_takes}
 use Rattle.walk.specs.Cells.{cell, chosen, branch_by, branch_of, cell_at, Decoded, SolvedFrom, Constant, LaneHolds}
 use Rattle.walk.specs.Digits.{Digits, value_in}
-use Rattle.walk.proofs.Laying.{chosen_is, chosen_equal}
+use Rattle.walk.proofs.Laying.{chosen_is}
 use Rattle.walk.proofs.Values.{
   variable_named,
   truth_named,
@@ -41,10 +42,12 @@ module _
     (pos : ℕ → ℕ)
     (inside : (k : ℕ) → k < shape.nodes → pos k < shape.nodes)
     (S : ℕ)
-    (bs before cells : List ℕ)
+    (bs : List Branch)
+    (long : length bs ≡ shape.nodes)
+    (before cells : List ℕ)
     (from : ℕ)
     (decoded : Decoded S pos table shape bs shape.nodes)
-    (solved : SolvedFrom S bs from shape.nodes before cells)
+    (solved : SolvedFrom S bs from before cells)
     (constant : Constant S cells)
     (l : ℕ)
     (low : l < S)
@@ -75,13 +78,8 @@ module _
 
     by_branch : val k ≡ takes (branch_of (cell_at pos) N n)
     by_branch =
-        let s = decoded.stored k below in
-        let m = pos k in
-        solved.solves m l late (inside k below) low
-        ∙ chosen_equal _ _ _ _ _ _ _ _ (same s.left_is) (same s.right_is) (same s.same_is) (same s.apart_is)
-      where
-        same : {x y : ℕ} → x ≡ y → get_or cells (x + l) 0 ≡ get_or cells (y + l) 0
-        same q = ap (λ i. get_or cells (i + l) 0) q
+        let m = inside k below in
+        solved.solves (pos k) l late (omega arith) low ∙ ap (λ b. lane_takes cells b l) (decoded.stored k below).is
 
     itself : (c r : ℕ) → at c ≡ r → chosen (at c) (at c) (at c) (at c) ≡ r
     itself c r e = chosen_is (at c) (at c) (at c) (at c) r (λ _. e) (λ _. e)

@@ -4,8 +4,8 @@ pub mod Slowing
 pub mod Splitting
 pub mod Values
 pub mod Laying
+pub mod Putting
 pub mod Solving
-pub mod Counted
 pub mod Branching
 pub mod Decoding
 pub mod Filling
@@ -15,6 +15,7 @@ pub mod Fast
 pub mod Freshness
 pub mod Blocks
 pub mod Arranging
+pub mod Found
 pub mod Walking
 pub mod Going
 pub mod Calling

@@ -1,8 +1,8 @@
 -- A digit laid run by run: it goes on by one after each run, and is 0 again after its last. Assumes nothing.
-use mathlib.Core.Path.{◌≡◌, refl, sym, ap, ◌∙◌}
+use mathlib.Core.Path.{◌≡◌, sym, ap, ◌∙◌}
 use Prim.Native.Nat.{ℕ, ◌+◌, ◌*◌, ◌-◌, ◌/◌, ◌%◌, ◌≤◌, ◌<◌}
 use native.Mathlib.Omega.{arith}
-use native.Mathlib.Nat.{mul-le-mul_right, lt_of_mul-lt-mul_right, mod-lt, mod_self, mod-eq_of_lt, zero-mod, div-add-mod'}
+use native.Mathlib.Nat.{mul-le-mul_right, lt_of_mul-lt-mul_right, mod-lt, mod_self, mod-eq_of_lt, div-add-mod'}
 use mathlib.Core.List.{List}
 use mathlib.Core.Logic.{inl, inr}
 use lib.Arith.{digits_div, digits_mod}
@@ -18,16 +18,6 @@ pub record Running (at lanes run size least : ℕ) (before cells : List ℕ) (di
   pub digit_is : digit ≡ runs % size
   pub inside : l ≤ lanes
   pub laid : DigitLaid at l run size least before cells
-
-pub running_none : (at lanes run size least : ℕ) (cells : List ℕ) → Running at lanes run size least cells cells 0 0
-running_none at lanes run size least cells =
-    record {
-      runs = 0;
-      runs_are = omega arith;
-      digit_is = sym (zero-mod size);
-      inside = omega arith;
-      laid = record { inside = λ l h. absurd (omega arith); outside = λ i h. refl };
-    }
 
 pub digit_small : (at lanes run size least : ℕ) (before cells : List ℕ) (digit l : ℕ)
     → Running at lanes run size least before cells digit l → 1 ≤ size → digit < size
@@ -112,11 +102,3 @@ module _ (at lanes run size least n : ℕ) (before cells after : List ℕ) (digi
   -- one run more
   pub run_more : (d : ℕ) → d ≡ (digit + 1) % size → Running at lanes run size least before after d (l + run)
   run_more d e = next_digit d (e ∙ ap (λ x. (x + 1) % size) r.digit_is ∙ digit_follows r.runs size some)
-
--- a digit of one value is the same in all lanes
-pub single_laid : (at lanes run least n : ℕ) (before after : List ℕ) → lanes ≤ n → Filled n at least before after → DigitLaid at lanes run 1 least before after
-single_laid at lanes run least n before after h f =
-    record {
-      inside = λ l g. f.inside l (omega arith) ∙ (let e : least ≡ l / run % 1 + least = (let z : l / run % 1 < 1 = mod-lt (l / run) (omega arith) in omega arith) in e);
-      outside = λ i g. f.outside i (inl g);
-    }

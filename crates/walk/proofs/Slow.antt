@@ -1,11 +1,12 @@
 -- The slow digits laid one after the other, each in all lanes of its cell. Assumes nothing.
-use mathlib.Core.Path.{◌≡◌, ap, ◌∙◌, subst}
+use mathlib.Core.Path.{◌≡◌, sym, ap, ◌∙◌, subst}
 use Prim.Native.Nat.{ℕ, ◌+◌, ◌*◌, ◌≤◌, ◌<◌}
 use native.Mathlib.Omega.{arith}
 use native.Mathlib.Nat.{mul-le-mul_left}
 use mathlib.Core.List.{List}
-use mathlib.Core.Logic.{inl, inr}
-use lib.ListN.{get_or}
+use mathlib.Core.Logic.{◌⊎◌, inl, inr}
+use lib.ListN.{length, get_or, take, length-take, get_or-eq_default}
+use lib.Seq.{get_or-take, length-take-le}
 use Rattle.theorems.proofs.Laws.Tests.{split}
 use Rattle.walk.specs.Cells.{Filled, least_of, SlowHeld, SlowLaid}
 
@@ -40,3 +41,21 @@ module _ (S N F : ℕ) (xs : List ℕ) (j : ℕ) (before cells after : List ℕ)
                   f.outside i (inr (omega arith)) ∙ s.outside i (inr (omega arith)))
             ];
       }
+
+-- so many of the digits are laid where they stand by themselves
+pub slow_part : (S N F : ℕ) (ds : List ℕ) (n : ℕ) (before after : List ℕ) → n ≤ length ds → SlowLaid S N F (take n ds) (length (take n ds)) before after
+    → SlowLaid S N F ds n before after
+slow_part S N F ds n before after h s =
+    let e = length-take-le n ds h in
+    record {
+      laid = λ j b l g. s.laid j (omega arith) l g ∙ ap (λ x. x + least_of N (F + j)) (get_or-take n ds j 0 b);
+      outside = λ i b. s.outside i (subst (λ m. (i < S * (2 + F)) ⊎ (S * (2 + (F + m)) ≤ i)) (sym e) b);
+    }
+
+-- and small, as they are
+pub small_part : (ds : List ℕ) (n : ℕ) → ((v : ℕ) → get_or ds v 0 + 1 < 256) → (v : ℕ) → get_or (take n ds) v 0 + 1 < 256
+small_part ds n h v =
+    elim (split v n) [
+      | inl b ↦ (let e = get_or-take n ds v 0 b in let u = h v in omega arith)
+      | inr b ↦ (let e : get_or (take n ds) v 0 ≡ 0 = get_or-eq_default (take n ds) 0 (let m = length-take n ds in omega arith) in omega arith)
+    ]

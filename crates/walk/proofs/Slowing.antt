@@ -2,12 +2,11 @@
 use mathlib.Core.Path.{◌≡◌, refl, sym, ap, ◌∙◌, subst}
 use Prim.Native.Nat.{ℕ, zero, suc, ◌+◌, ◌-◌, ◌≤◌, ◌<◌}
 use native.Mathlib.Omega.{arith}
-use mathlib.Core.List.{List, [], ◌∷◌}
+use mathlib.Core.List.{List, [], ◌∷◌, ◌++◌}
 use mathlib.Core.Logic.{inl, inr}
-use lib.ListN.{length, get_or, take, drop, set, replicate, length-set, length-drop, length-replicate}
-use lib.Seq.{get_or-take, get_or-drop, length-take-le, ext_get_or, get_or-set_other}
+use lib.ListN.{length, get_or, take, drop, replicate, length-take, length-drop, length-append, length-replicate, get_or-append}
+use lib.Seq.{get_or-append-add, get_or-take, get_or-drop, length-take-le, ext_get_or}
 use Rattle.definitions.specs.Places.{first}
-use Rattle.theorems.proofs.Laws.Entries.{set_more}
 use Rattle.theorems.proofs.Search.Places.{Positive, Within}
 use Rattle.walk.specs.declared.odometer.Odometer.{Odometer}
 use Rattle.walk.specs.Digits.{Turning, sizes_in, digits_of, SlowIs}
@@ -22,18 +21,23 @@ zeros_at zero i = refl
 zeros_at (suc n) zero = refl
 zeros_at (suc n) (suc i) = zeros_at n i
 
-pub taking_none : (fast : ℕ) (all : List ℕ) → Taking fast all 0 (replicate 40 0)
-taking_none fast all =
-    record { long = length-replicate {A = ℕ} 40 0; taken = λ i h. absurd (omega arith); rest = λ i h. zeros_at 40 i }
-
-pub taking_more : (fast : ℕ) (all : List ℕ) (j : ℕ) (sizes : List ℕ) → Taking fast all j sizes → j < 40
-    → Taking fast all (j + 1) (set sizes j (get_or all (fast + j) 0))
-taking_more fast all j sizes t h =
-    let long = t.long in
+-- a part of the sizes, and zeros after it
+pub taking_part : (fast : ℕ) (all xs : List ℕ) (n : ℕ) → n ≤ 40 → fast + n ≤ length all → xs ≡ take n (drop fast all)
+    → Taking fast all n (xs ++ drop n (replicate 40 0))
+taking_part fast all xs n few fits e =
+    let zeros : List ℕ = replicate 40 0 in
+    let long : length xs ≡ n = ap length e ∙ (simp (length-take, length-drop) (omega arith)) in
+    let many = length-replicate {A = ℕ} 40 0 in
     record {
-      long = length-set sizes j _ ∙ t.long;
-      taken = set_more (λ i x. x ≡ get_or all (fast + i) 0) sizes j (get_or all (fast + j) 0) (omega arith) t.taken refl;
-      rest = λ i g. get_or-set_other sizes j i _ 0 (λ e. omega arith) ∙ t.rest i (omega arith);
+      long = length-append xs (drop n zeros) ∙ (let r = length-drop n zeros in omega arith);
+      taken =
+          λ i h.
+          get_or-append xs (drop n zeros) 0 i (omega arith) ∙ ap (λ ys. get_or ys i 0) e ∙ get_or-take n (drop fast all) i 0 h
+          ∙ get_or-drop fast all i 0;
+      rest =
+          λ i h.
+          ap (λ k. get_or (xs ++ drop n zeros) k 0) (let q : i ≡ length xs + (i - n) = omega arith in q)
+          ∙ get_or-append-add xs (drop n zeros) (i - n) 0 ∙ get_or-drop n zeros (i - n) 0 ∙ zeros_at 40 (n + (i - n));
     }
 
 pub positive_drop : (n : ℕ) (ss : List ℕ) → Positive ss → Positive (drop n ss)

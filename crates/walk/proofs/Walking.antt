@@ -5,7 +5,7 @@ use Prim.Native.Nat.{ℕ, suc, ◌+◌, ◌*◌, ◌-◌, ◌≤◌, ◌<◌, mi
 use native.Mathlib.Nat.{min-le_left, min-le_right, le-min, mul-le-mul_right}
 use native.Mathlib.Omega.{arith}
 use native.Mathlib.Numerals.{add-one}
-use mathlib.Core.Bool.{Bool, true, false, false≢true}
+use mathlib.Core.Bool.{Bool, true, false}
 use mathlib.Core.List.{List, [], map, ◌++◌}
 use mathlib.Core.Logic.{◌⊎◌, inl, inr}
 use lib.ListN.{length, take, length-map, length-drop, take-append-drop, get_or-map}
@@ -26,7 +26,11 @@ use Rattle.blocks.specs.Order.{pos_of}
 use Rattle.blocks.proofs.Blocks.{block_digits}
 use Rattle.blocks.proofs.Stays.{within_at}
 use Rattle.order.specs.Order.{level_in}
-use Rattle.walk.specs.Cells.{cell, FirstLane, LaneCopied}
+use Rattle.walk.specs.Cells.{cell, LaneCopied}
+use Rattle.walk.proofs.Found.{FirstLane}
+use Rattle.std.specs.Prelude.{Some, None}
+use Rattle.walk.specs.declared.Plan.{Plan}
+use Rattle.walk.specs.declared.branches.Branch.{Branch}
 use Rattle.walk.specs.Digits.{Digits, ValuesAre, value_in, sizes_in, fast_of, slow_of}
 use Rattle.walk.specs.Kept.{lane_digits, KeptFresh}
 use Rattle.walk.specs.Keeping.{Setting}
@@ -51,13 +55,6 @@ lanes_few many left lanes e =
     ]
     in (omega arith, omega arith, most)
 
--- so fewer places are left after each block
-pub loop_falls : (budget tried many lanes : ℕ) → (many ≤ lanes) × (many ≤ budget - tried) × (many < lanes → budget - tried ≤ many) → 1 ≤ lanes → tried < budget
-    → budget - (tried + many) < budget - tried
-loop_falls budget tried many lanes m some h =
-    let a = m.1 in
-    elim (split many lanes) [ inl g ↦ (let b = m.2 g in omega arith) | inr g ↦ omega arith ]
-
 -- the lesser of two is the one that is no more than the other
 least_is : (a b m : ℕ) → m ≤ a → m ≤ b → (a ≤ m) ⊎ (b ≤ m) → m ≡ min a b
 least_is a b m x y z =
@@ -66,7 +63,22 @@ least_is a b m x y z =
     let v = min-le_right a b in
     elim z [ inl g ↦ omega arith | inr g ↦ omega arith ]
 
-module _ (table : List ℕ) (s : Shape) (root : ℕ) (o : Odometer) (p : Parts) (positions starts bs : List ℕ) (set : Setting table s root o p positions starts bs) where
+module _ (plan : Plan) (positions starts : List ℕ) (bs : List Branch) (set : Setting plan positions starts bs) where
+  abbrev table : List ℕ
+  table = plan.table.bytes.now
+
+  abbrev s : Shape
+  s = plan.table.shape
+
+  abbrev root : ℕ
+  root = plan.root
+
+  abbrev o : Odometer
+  o = plan.start
+
+  abbrev p : Parts
+  p = plan.parts
+
   abbrev N : ℕ
   N = s.variables
 
@@ -98,13 +110,13 @@ module _ (table : List ℕ) (s : Shape) (root : ℕ) (o : Odometer) (p : Parts) 
   limit budget = min budget (product_of ss)
 
   pub count_is : o.count ≡ N + s.truths
-  count_is = set.begins.count_is
+  count_is = set.planned.begins.count_is
 
   sizes_length : length ss ≡ o.count
-  sizes_length = let t = set.begins.turning in let a = t.few in let b = t.sizes_long in length-take-le o.count o.sizes (omega arith)
+  sizes_length = let t = set.planned.begins.turning in let a = t.few in let b = t.sizes_long in length-take-le o.count o.sizes (omega arith)
 
   pub fast_length : length fast ≡ p.fast
-  fast_length = let f = set.parts_are.parted.fast_few in let l = sizes_length in length-take-le p.fast ss (omega arith)
+  fast_length = let f = set.planned.parts_are.parted.fast_few in let l = sizes_length in length-take-le p.fast ss (omega arith)
 
   pub slow_length : length slow ≡ o.count - p.fast
   slow_length = length-drop p.fast ss ∙ ap (λ n. n - p.fast) sizes_length
@@ -114,20 +126,20 @@ module _ (table : List ℕ) (s : Shape) (root : ℕ) (o : Odometer) (p : Parts) 
       let a = fast_length in
       let b = slow_length in
       let c = count_is in
-      let f = set.parts_are.parted.fast_few in
+      let f = set.planned.parts_are.parted.fast_few in
       omega arith
 
   whole : fast ++ slow ≡ ss
   whole = take-append-drop p.fast ss
 
   pub fine : Positive slow
-  fine = positive_drop p.fast ss set.begins.turning.positive
+  fine = positive_drop p.fast ss set.planned.begins.turning.positive
 
   pub lanes_are : W ≡ product_of fast
-  lanes_are = set.parts_are.parted.lanes_are
+  lanes_are = set.planned.parts_are.parted.lanes_are
 
   pub room : product_of fast ≤ S
-  room = let e = lanes_are in let f = set.parts_are.parted.lanes_fit in omega arith
+  room = let e = lanes_are in let f = set.planned.parts_are.parted.lanes_fit in omega arith
 
   pub product_is : product_of ss ≡ W * product_of slow
   product_is = ap product_of (sym whole) ∙ product_of_append fast slow ∙ ap (λ w. w * product_of slow) (sym lanes_are)
@@ -141,14 +153,14 @@ module _ (table : List ℕ) (s : Shape) (root : ℕ) (o : Odometer) (p : Parts) 
             λ v h.
             let c = count_is in
             let l = sizes_length in
-            let b = within_at ss (digits_after ss t) (after_within ss set.begins.turning.positive t) (N + v) (omega arith) in
+            let b = within_at ss (digits_after ss t) (after_within ss set.planned.begins.turning.positive t) (N + v) (omega arith) in
             let e = get_or-take o.count o.sizes (N + v) 0 (omega arith) in
-            let two = set.begins.bits v h in
+            let two = set.planned.begins.bits v h in
             omega arith;
       })
 
   pub inside : (k : ℕ) → k < nodes → pos k < nodes
-  inside = (ordering table s set.table_in_is p.fast (take (N + s.truths) o.sizes) positions starts set.arranged).inside
+  inside = (ordering table s plan.table.well_formed p.fast (take (N + s.truths) o.sizes) positions starts set.arranged).inside
 
   sizes_same : take (N + s.truths) o.sizes ≡ fast ++ slow
   sizes_same = ap (λ n. take n o.sizes) (sym count_is) ∙ sym whole
@@ -180,8 +192,8 @@ module _ (table : List ℕ) (s : Shape) (root : ℕ) (o : Odometer) (p : Parts) 
 
     root_byte : (l : ℕ) → l < W → cell S after (42 + pos root) l ≡ bit (good (q * W + l + 1))
     root_byte l h =
-        let b = set.root_in.below in
-        lane_place l h root b ∙ truth_byte set.table_in_is (digits_at ss (q * W + l + 1)) root b set.root_in.is_formula
+        let b = set.planned.root_in.below in
+        lane_place l h root b ∙ truth_byte plan.table.well_formed (digits_at ss (q * W + l + 1)) root b set.planned.root_in.is_formula
 
     zero_false : (b : Bool) → bit b ≡ 0 → b ≡ false
     zero_false true e = absurd (omega arith)
@@ -224,7 +236,7 @@ module _ (table : List ℕ) (s : Shape) (root : ℕ) (o : Odometer) (p : Parts) 
       -- a false root: the walk ends
       pub falsifies : (budget : ℕ) → q < product_of slow → many ≤ budget - tried → lane < many → (vals : List ℕ) → nodes ≤ length vals
           → LaneCopied S pos after lane nodes vals
-          → WalkIs table s root o (min budget (product_of (sizes_in o))) vals (record { tried = tried + lane + 1; falsified = true })
+          → WalkIs table s root o (min budget (product_of (sizes_in o))) vals (Some (tried + lane + 1))
       falsifies budget low left h vals long copied =
           let u = place_inside q lane low (omega arith) in
           record {
@@ -235,15 +247,12 @@ module _ (table : List ℕ) (s : Shape) (root : ℕ) (o : Odometer) (p : Parts) 
                   fails = subst (λ t. good (t + lane + 1) ≡ false) (sym at) (zero_false _ (sym (root_byte lane (omega arith)) ∙ found.there h));
                   before = λ n a b. held_more n a (omega arith);
                 };
-            values_are = λ _. values_place h vals long copied;
+            values_are = values_place h vals long copied;
           }
 
   -- all lanes that are looked at are true
   pub ends_true : (budget tried : ℕ) → tried ≤ budget → tried ≤ product_of ss → (budget ≤ tried) ⊎ (product_of ss ≤ tried) → AllTrue good tried → (vals : List ℕ)
-      → WalkIs table s root o (min budget (product_of (sizes_in o))) vals (record { tried = tried; falsified = false })
+      → WalkIs table s root o (min budget (product_of (sizes_in o))) vals None
   ends_true budget tried a b c held vals =
       let e : tried ≡ limit budget = least_is budget (product_of ss) tried a b c in
-      record {
-        ends = (e, λ n x y. held n x (omega arith));
-        values_are = λ f. absurd (false≢true f);
-      }
+      record { ends = λ n x y. held n x (omega arith); values_are = tt }

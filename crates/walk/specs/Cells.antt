@@ -42,19 +42,24 @@ branch_by at N n unknown = one 0
 abbrev pub branch_of : (ℕ → ℕ) → ℕ → Node → Branch
 branch_of at N n = branch_by at N n (op_of n.op)
 
+-- from the cells' numbers to where their lanes begin
+abbrev pub scaled : ℕ → Branch → Branch
+scaled S b = record { left = S * b.left; right = S * b.right; same = S * b.same; apart = S * b.apart }
+
+-- branches as the code has them
+abbrev pub branch_in : List Branch → ℕ → Branch
+branch_in bs m = get_or bs m (one 0)
+
 -- the cell of the node at a position
 abbrev pub cell_at : (ℕ → ℕ) → ℕ → ℕ
 cell_at pos j = 42 + pos j
 
 -- the branch at position m of the array: for each of the four cells, where its lanes begin
-pub record Stored (S : ℕ) (bs : List ℕ) (m : ℕ) (b : Branch) : Type 0 where
-  pub left_is : get_or bs (4 * m) 0 ≡ S * b.left
-  pub right_is : get_or bs (4 * m + 1) 0 ≡ S * b.right
-  pub same_is : get_or bs (4 * m + 2) 0 ≡ S * b.same
-  pub apart_is : get_or bs (4 * m + 3) 0 ≡ S * b.apart
+pub record Stored (S : ℕ) (bs : List Branch) (m : ℕ) (b : Branch) : Type 0 where
+  pub is : branch_in bs m ≡ scaled S b
 
 -- the branches of the first k nodes of the table, each at its node's position
-pub record Decoded (S : ℕ) (pos : ℕ → ℕ) (table : List ℕ) (s : Shape) (bs : List ℕ) (k : ℕ) : Type 0 where
+pub record Decoded (S : ℕ) (pos : ℕ → ℕ) (table : List ℕ) (s : Shape) (bs : List Branch) (k : ℕ) : Type 0 where
   pub stored : (j : ℕ) → j < k → Stored S bs (pos j) (branch_of (cell_at pos) s.variables (node (table_in table s.nodes) j))
 
 -- lanes of a cell before position m's
@@ -62,38 +67,32 @@ abbrev pub Earlier : ℕ → ℕ → ℕ → Type 0
 Earlier S m at = at + S ≤ S * (42 + m)
 
 -- a branch reads nothing but what is there before it
-pub record Ready (S : ℕ) (bs : List ℕ) (m : ℕ) : Type 0 where
-  pub left : Earlier S m (get_or bs (4 * m) 0)
-  pub right : Earlier S m (get_or bs (4 * m + 1) 0)
-  pub same : Earlier S m (get_or bs (4 * m + 2) 0)
-  pub apart : Earlier S m (get_or bs (4 * m + 3) 0)
+pub record Ready (S m : ℕ) (b : Branch) : Type 0 where
+  pub left : Earlier S m b.left
+  pub right : Earlier S m b.right
+  pub same : Earlier S m b.same
+  pub apart : Earlier S m b.apart
 
-abbrev pub AllReady : ℕ → List ℕ → ℕ → Type 0
-AllReady S bs nodes = (m : ℕ) → m < nodes → Ready S bs m
+abbrev pub AllReady : ℕ → List Branch → Type 0
+AllReady S bs = (m : ℕ) → m < length bs → Ready S m (branch_in bs m)
 
--- the lanes that a branch takes
+-- what a branch takes in lane l
+abbrev pub takes : List ℕ → Branch → ℕ → ℕ
+takes cells b l = chosen (get_or cells (b.left + l) 0) (get_or cells (b.right + l) 0) (get_or cells (b.same + l) 0) (get_or cells (b.apart + l) 0)
+
+-- the sixteen lanes that a branch takes
 pub record Picked (cells : List ℕ) (left right same apart : ℕ) (lanes : List ℕ) : Type 0 where
   pub lane : (l : ℕ) → l < 16
       → get_or lanes l 0 ≡ chosen (get_or cells (left + l) 0) (get_or cells (right + l) 0) (get_or cells (same + l) 0) (get_or cells (apart + l) 0)
 
--- sixteen lanes laid at an offset of the cells
-pub record LanesLaid (before : List ℕ) (at : ℕ) (lanes after : List ℕ) : Type 0 where
-  pub inside : (l : ℕ) → l < 16 → get_or after (at + l) 0 ≡ get_or lanes l 0
-  pub outside : (i : ℕ) → (i < at) ⊎ (at + 16 ≤ i) → get_or after i 0 ≡ get_or before i 0
-
 -- the lanes at a place are what a branch takes from the cells before, and what stands before that place is as it was
 pub record Chosen (S at : ℕ) (b : Branch) (before after : List ℕ) : Type 0 where
-  pub inside : (l : ℕ) → l < S
-      → get_or after (at + l) 0
-      ≡ chosen (get_or before (b.left + l) 0) (get_or before (b.right + l) 0) (get_or before (b.same + l) 0) (get_or before (b.apart + l) 0)
+  pub inside : (l : ℕ) → l < S → get_or after (at + l) 0 ≡ takes before b l
   pub outside : (i : ℕ) → i < at → get_or after i 0 ≡ get_or before i 0
 
 -- the positions from one on are what their branches take, in every lane, and the cells before them are as before
-pub record SolvedFrom (S : ℕ) (bs : List ℕ) (from nodes : ℕ) (before after : List ℕ) : Type 0 where
-  pub solves : (m l : ℕ) → from ≤ m → m < nodes → l < S
-      → cell S after (42 + m) l
-      ≡ chosen (get_or after (get_or bs (4 * m) 0 + l) 0) (get_or after (get_or bs (4 * m + 1) 0 + l) 0) (get_or after (get_or bs (4 * m + 2) 0 + l) 0)
-      (get_or after (get_or bs (4 * m + 3) 0 + l) 0)
+pub record SolvedFrom (S : ℕ) (bs : List Branch) (from : ℕ) (before after : List ℕ) : Type 0 where
+  pub solves : (m l : ℕ) → from ≤ m → m < length bs → l < S → cell S after (42 + m) l ≡ takes after (branch_in bs m) l
   pub kept : (i : ℕ) → i < S * (42 + from) → get_or after i 0 ≡ get_or before i 0
 
 -- one value in so many lanes from an offset on, and the rest as before
@@ -132,12 +131,6 @@ pub record SlowLaid (S N F : ℕ) (xs : List ℕ) (to : ℕ) (before after : Lis
 pub record LaneHolds (S N count : ℕ) (ds cells : List ℕ) (l : ℕ) : Type 0 where
   pub variable : (v : ℕ) → v < N → cell S cells (2 + v) l ≡ get_or ds v 0 + 1
   pub truth : (v : ℕ) → N ≤ v → v < count → cell S cells (2 + v) l ≡ get_or ds v 0
-
--- the first of so many lanes from an offset on that is 0, or as many as there are
-pub record FirstLane (cells : List ℕ) (at many r : ℕ) : Type 0 where
-  pub inside : r ≤ many
-  pub before : (l : ℕ) → l < r → get_or cells (at + l) 0 ≡ 0 → ⊥
-  pub there : r < many → get_or cells (at + r) 0 ≡ 0
 
 -- the nodes' values in a lane
 pub record LaneCopied (S : ℕ) (pos : ℕ → ℕ) (cells : List ℕ) (lane k : ℕ) (vals : List ℕ) : Type 0 where

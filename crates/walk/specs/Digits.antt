@@ -1,5 +1,5 @@
 -- Digits, their successor, and the values at an assignment, as the code has them. Assumes nothing.
-use Rattle.std.specs.Prelude.{◌≡◌, ℕ, ◌+◌, ◌*◌, ◌-◌, ◌≤◌, ◌<◌, List, [], map, true, false, length, get_or, take, drop}
+use Rattle.std.specs.Prelude.{◌≡◌, ℕ, ◌+◌, ◌*◌, ◌-◌, ◌≤◌, ◌<◌, List, [], map, Option, MatchOption, length, get_or, take, drop}
 use Rattle.definitions.specs.Logic.{value_at, values}
 use Rattle.definitions.specs.Lists.{product_of}
 use Rattle.definitions.specs.Places.{next, first, assignment}
@@ -9,7 +9,6 @@ use Rattle.ranges.specs.Table.{table_in}
 use Rattle.ranges.specs.declared.Shape.{Shape}
 use Rattle.blocks.specs.Moves.{turning as moved}
 use Rattle.walk.specs.declared.odometer.Odometer.{Odometer}
-use Rattle.walk.specs.declared.odometer.Step.{Step}
 use Rattle.walk.specs.declared.split.Parts.{Parts}
 
 -- the digits of the truth variables are 0 or 1
@@ -49,15 +48,13 @@ pub record Turning (o : Odometer) : Type 0 where
   pub within : Within (sizes_in o) (digits_of o)
   pub past : (i : ℕ) → o.count ≤ i → get_or o.digits i 0 ≡ 0
 
--- the successor: the same sizes, the next digits, which one turned, and the end exactly where none did
-pub record NextIs (o : Odometer) (r : Step) : Type 0 where
-  pub turning : Turning r.odometer
-  pub same_sizes : r.odometer.sizes ≡ o.sizes
-  pub same_count : r.odometer.count ≡ o.count
-  pub digits_next : digits_of r.odometer ≡ next (sizes_in o) (digits_of o)
-  pub turned_is : r.turned ≡ moved (sizes_in o) (digits_of o)
-  pub at_end : r.ended ≡ true → r.turned ≡ o.count
-  pub not_end : r.ended ≡ false → r.turned < o.count
+-- the successor: the same sizes, the next digits, and which one turned, or none where it comes to its end
+pub record NextIs (o next' : Odometer) (turned : Option ℕ) : Type 0 where
+  pub turning : Turning next'
+  pub same_sizes : next'.sizes ≡ o.sizes
+  pub same_count : next'.count ≡ o.count
+  pub digits_next : digits_of next' ≡ next (sizes_in o) (digits_of o)
+  pub turned_is : MatchOption turned (moved (sizes_in o) (digits_of o) ≡ o.count) (λ i. (i ≡ moved (sizes_in o) (digits_of o)) × (i < o.count))
 
 -- the odometer of the digits after the first F, at its first place
 pub record SlowIs (o : Odometer) (F : ℕ) (r : Odometer) : Type 0 where

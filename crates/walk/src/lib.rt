@@ -6,19 +6,17 @@
 
 ghost use Rattle.std.specs.Prelude.{◌≡◌, ◌+◌, ◌*◌, ◌≤◌, min, length};
 ghost use Rattle.definitions.specs.Lists.{product_of};
-ghost use Rattle.ranges.specs.Table.{TableIn};
 ghost use Rattle.walk.specs.Digits.{sizes_in};
 ghost use Rattle.walk.specs.Keeping.{Planned, PlanWalked, Begins};
 ghost use Rattle.walk.specs.Walked.{RootIn, Starts, WalkIs};
 
-use crate::branches::decode;
+use crate::branches::{Branch, decode};
 use crate::cells::{lay_lanes, lay_slow};
 use crate::lanes::{cell_of, evaluate, first_false, values_of};
 use crate::odometer::Odometer;
 use crate::split::{Parts, split};
 use order::arrange;
-use problem::bytes::number;
-use ranges::Shape;
+use ranges::table::FreeTable;
 
 pub mod branches;
 pub mod cells;
@@ -26,96 +24,67 @@ pub mod lanes;
 pub mod odometer;
 pub mod split;
 
-// How far the walk went: the places looked at, in order from place 1, and whether the last of them is false. Places of the same
-// block past the last one looked at have been worked out too; they are not counted, and nothing depends on them.
+// What is walked: a table, the node whose truth is looked at, the odometer at place 1, and how its digits are split.
 #[derive(Clone, Copy)]
-pub struct Walked {
-    pub tried: u64,
-    pub falsified: bool,
-}
-
-// What is walked: a table, the node whose truth is looked at, and how its digits are split.
-#[derive(Clone, Copy)]
-pub struct Plan {
-    pub shape: Shape,
+pub struct Plan<'a> {
+    pub table: FreeTable<'a>,
     pub root: usize,
+    pub start: Odometer,
     pub parts: Parts,
 }
 
-// As many places of the table are tried as the budget allows. Where the last is false, its values are left in values. A table is
+// The first false place of the table, among as many as the budget allows: its values are left in values. Where there is none, all
+// of them are true. Places of the same block past the one found have been worked out too; nothing depends on them. A table is
 // walked in arrays that are no larger than need be: to clear the largest takes longer than most small jobs.
 pub fn walk(
-    table: &[u8],
-    shape: Shape,
+    table: FreeTable<'_>,
     root: usize,
     start: Odometer,
     budget: u64,
     values: &mut [u8],
-) -> Walked
-    requires { TableIn table.now shape × RootIn table.now shape root × Starts shape start × (shape.nodes ≤ length values.old) }
-    ensures { WalkIs table.now shape root start (min budget (product_of (sizes_in start))) values.new result }
+) -> Option<u64>
+    requires { RootIn table.bytes.now table.shape root × Starts table.shape start × (table.shape.nodes ≤ length values.old) }
+    ensures { WalkIs table.entry.bytes.now table.entry.shape root start (min budget (product_of (sizes_in start))) values.new result }
 {
-    let parts = split(start, shape.nodes);
-    let plan = Plan { shape, root, parts };
-    let room = 16 * parts.chunks * (42 + shape.nodes);
-    if shape.nodes <= 86 {
-        if room <= 4096 {
-            let mut positions = [0u16; 86];
-            let mut branches = [0u16; 344];
-            let mut cells = [0u8; 4096];
-            return walk_in(
-                table,
-                plan,
-                start,
-                budget,
-                &mut positions,
-                &mut branches,
-                &mut cells,
-                values,
-            );
-        }
-        return walk_middle(table, plan, start, budget, values);
+    let nodes = table.shape.nodes;
+    let parts = split(&start, nodes);
+    let plan = Plan {
+        table,
+        root,
+        start,
+        parts,
+    };
+    let room = 16 * parts.chunks * (42 + nodes);
+    if 86 < nodes {
+        walk_sized::<2632, 57344>(&plan, budget, values)
+    } else if room <= 4096 {
+        walk_sized::<86, 4096>(&plan, budget, values)
+    } else {
+        walk_sized::<86, 16384>(&plan, budget, values)
     }
-    walk_large(table, plan, start, budget, values)
 }
 
-// At most 86 nodes, in as many lanes as may be.
-fn walk_middle(table: &[u8], plan: Plan, start: Odometer, budget: u64, values: &mut [u8]) -> Walked
-    requires { Planned table.now plan start × (plan.shape.nodes ≤ 86) × (plan.shape.nodes ≤ length values.old) }
-    ensures { PlanWalked table.now plan start budget values.new result }
+// The walk in arrays for so many nodes, whose cells take so many bytes at most.
+fn walk_sized<const NODES: usize, const CELLS: usize>(
+    plan: &Plan,
+    budget: u64,
+    values: &mut [u8],
+) -> Option<u64>
+    requires planned { Planned plan.now }
+    requires nodes { (plan.now.table.shape.nodes ≤ NODES) × (NODES ≤ 2632) }
+    requires cells { (16 * plan.now.parts.chunks * (42 + plan.now.table.shape.nodes) ≤ CELLS) × (CELLS ≤ 57344) }
+    requires values { plan.now.table.shape.nodes ≤ length values.old }
+    ensures { PlanWalked plan.now budget values.new result }
 {
-    let mut positions = [0u16; 86];
-    let mut branches = [0u16; 344];
-    let mut cells = [0u8; 16384];
-    walk_in(
-        table,
-        plan,
-        start,
-        budget,
-        &mut positions,
-        &mut branches,
-        &mut cells,
-        values,
-    )
-}
-
-// Any table.
-fn walk_large(table: &[u8], plan: Plan, start: Odometer, budget: u64, values: &mut [u8]) -> Walked
-    requires { Planned table.now plan start × (plan.shape.nodes ≤ length values.old) }
-    ensures { PlanWalked table.now plan start budget values.new result }
-{
-    let mut positions = [0u16; 2632];
-    let mut branches = [0u16; 10528];
-    let mut cells = [0u8; 57344];
-    walk_in(
-        table,
-        plan,
-        start,
-        budget,
-        &mut positions,
-        &mut branches,
-        &mut cells,
-        values,
+    let nodes = plan.table.shape.nodes;
+    let mut positions = [0; NODES];
+    let mut branches = [Branch::FALSE; NODES];
+    let mut cells = [0; CELLS];
+    let positions = &mut positions[..nodes];
+    let branches = &mut branches[..nodes];
+    let begun = begin(plan, positions, branches, &mut cells);
+    walk_on(
+        plan, &begun, budget, positions, branches, &mut cells, values,
     )
 }
 
@@ -128,92 +97,59 @@ pub struct Begun {
     pub root: usize,
 }
 
-// The nodes are put in order and made branches, and the cells of the digits are laid for the first block.
-fn begin(
-    table: &[u8],
-    plan: Plan,
-    start: Odometer,
-    positions: &mut [u16],
-    branches: &mut [u16],
-    cells: &mut [u8],
-) -> Begun
-    requires { Planned table.now plan start × (plan.shape.nodes ≤ length positions.old) × (4 * plan.shape.nodes ≤ length branches.old) × (16 * plan.parts.chunks * (42 + plan.shape.nodes) ≤ length cells.old) }
-    ensures { Begins table.now plan start positions.new branches.new cells.new result }
+// The nodes are put in order and made branches, and the cells of the digits are laid for the first block. The three arrays stay
+// apart: the walk then reads two of them and writes the third.
+fn begin(plan: &Plan, positions: &mut [u16], branches: &mut [Branch], cells: &mut [u8]) -> Begun
+    requires { Planned plan.now × (length positions.old ≡ plan.now.table.shape.nodes) × (length branches.old ≡ plan.now.table.shape.nodes) × (16 * plan.now.parts.chunks * (42 + plan.now.table.shape.nodes) ≤ length cells.old) }
+    ensures { Begins plan.now positions.new branches.new cells.new result }
 {
-    let shape = plan.shape;
+    let table = plan.table;
     let parts = plan.parts;
-    let variables = shape.variables;
-    let starts = arrange(table, shape, parts.fast, &start.sizes, positions);
-    decode(table, shape, parts.chunks, positions, branches);
-    lay_lanes(variables, parts, start, cells);
-    let slow = start.slow(parts.fast);
-    lay_slow(variables, parts, &slow.digits, slow.count, cells);
-    let root = cell_of(positions, plan.root, parts.chunks);
+    let starts = arrange(table, parts.fast, &plan.start.sizes, positions);
+    decode(table, parts.chunks, positions, branches);
+    lay_lanes(plan, cells);
+    let slow = plan.start.slow(parts.fast);
+    lay_slow(plan, &slow.digits[..slow.count], cells);
+    let root = cell_of(positions[plan.root], parts.chunks);
     Begun { starts, slow, root }
 }
 
-// The walk, in arrays that have room for the table. After every step the kept values equal values worked out afresh.
-fn walk_in(
-    table: &[u8],
-    plan: Plan,
-    start: Odometer,
+// The walk from block to block. After every step the kept values equal values worked out afresh.
+fn walk_on(
+    plan: &Plan,
+    begun: &Begun,
     budget: u64,
-    positions: &mut [u16],
-    branches: &mut [u16],
+    positions: &[u16],
+    branches: &[Branch],
     cells: &mut [u8],
     values: &mut [u8],
-) -> Walked
-    requires { Planned table.now plan start × (plan.shape.nodes ≤ length positions.old) × (4 * plan.shape.nodes ≤ length branches.old) × (16 * plan.parts.chunks * (42 + plan.shape.nodes) ≤ length cells.old) × (plan.shape.nodes ≤ length values.old) }
-    ensures { PlanWalked table.now plan start budget values.new result }
+) -> Option<u64>
+    requires { Begins plan.now positions.now branches.now cells.old begun.now × (length positions.now ≡ plan.now.table.shape.nodes) × (length branches.now ≡ plan.now.table.shape.nodes) × (16 * plan.now.parts.chunks * (42 + plan.now.table.shape.nodes) ≤ length cells.old) × (plan.now.table.shape.nodes ≤ length values.old) }
+    ensures { PlanWalked plan.now budget values.new result }
 {
-    let shape = plan.shape;
     let parts = plan.parts;
-    let begun = begin(table, plan, start, positions, branches, cells);
-    let starts = begun.starts;
     let mut odometer = begun.slow;
-    let mut tried = 0u64;
+    let mut tried = 0;
     let mut from = 0;
+    // No `for`: a block has as many places as its lanes, or as are left.
     while tried < budget {
-        evaluate(branches, from, shape.nodes, parts.chunks, cells);
+        evaluate(branches, from, parts.chunks, cells);
         let many = lanes_in(budget - tried, parts.lanes);
-        let lane = first_false(cells, begun.root, many);
-        if lane < many {
-            values_of(cells, positions, shape.nodes, parts.chunks, lane, values);
-            return Walked {
-                tried: tried + lane as u64 + 1,
-                falsified: true,
-            };
+        if let Some(lane) = first_false(&cells[begun.root..begun.root + many]) {
+            values_of(cells, positions, parts.chunks, lane, values);
+            return Some(tried + lane as u64 + 1);
         }
         tried += many as u64;
-        let step = odometer.next();
-        odometer = step.odometer;
-        if step.ended {
-            return Walked {
-                tried,
-                falsified: false,
-            };
-        }
-        lay_slow(
-            shape.variables,
-            parts,
-            &odometer.digits,
-            step.turned + 1,
-            cells,
-        );
-        from = number(starts[parts.fast + step.turned]);
+        let turned = odometer.next()?;
+        lay_slow(plan, &odometer.digits[..turned + 1], cells);
+        from = usize::from(begun.starts[parts.fast + turned]);
     }
-    Walked {
-        tried,
-        falsified: false,
-    }
+    None
 }
 
 // As many lanes as there are places left, and at most all.
 fn lanes_in(left: u64, lanes: usize) -> usize
     ensures { result ≡ min left lanes }
 {
-    if left < lanes as u64 {
-        return left as usize;
-    }
-    lanes
+    left.min(lanes as u64) as usize
 }

@@ -2,6 +2,7 @@
 ghost use Rattle.std.specs.Prelude.{◌≤◌};
 ghost use Rattle.walk.specs.Digits.{Turning, NextIs, SlowIs};
 
+// The sizes stand apart from the digits: the order of the nodes reads them alone.
 #[derive(Clone, Copy)]
 pub struct Odometer {
     pub digits: [u8; 40],
@@ -9,65 +10,31 @@ pub struct Odometer {
     pub count: usize,
 }
 
-// The next digits, or the end, where there are none and the digits are the first again. All digits below the turned one went back
-// to 0, and those above it stayed.
-#[derive(Clone, Copy)]
-pub struct Step {
-    pub odometer: Odometer,
-    pub turned: usize,
-    pub ended: bool,
-}
-
 impl Odometer {
-    // The assignment hands on its successor.
-    pub fn next(self) -> Step
-        requires { Turning self }
-        ensures { NextIs self result }
+    // The assignment hands on its successor, and tells the digit that turned: all below it went back to 0, and those above it stayed.
+    // After the last there is none, and the digits are the first again.
+    pub fn next(&mut self) -> Option<usize>
+        requires { Turning self.old }
+        ensures { NextIs self.old self.new result }
     {
-        let count = self.count;
-        let sizes = self.sizes;
-        let mut digits = self.digits;
-        let mut i = 0;
-        while i < count {
-            if digits[i] + 1 < sizes[i] {
-                digits[i] = digits[i] + 1;
-                return Step {
-                    odometer: Odometer {
-                        digits,
-                        sizes,
-                        count,
-                    },
-                    turned: i,
-                    ended: false,
-                };
+        for i in 0..self.count {
+            if self.digits[i] + 1 < self.sizes[i] {
+                self.digits[i] += 1;
+                return Some(i);
             }
-            digits[i] = 0;
-            i += 1;
+            self.digits[i] = 0;
         }
-        Step {
-            odometer: Odometer {
-                digits,
-                sizes,
-                count,
-            },
-            turned: count,
-            ended: true,
-        }
+        None
     }
 
     // The odometer of the digits after the first ones, at its first place.
-    pub fn slow(self, fast: usize) -> Odometer
-        requires { Turning self × (fast ≤ self.count) }
-        ensures { SlowIs self fast result }
+    pub fn slow(&self, fast: usize) -> Odometer
+        requires { Turning self.now × (fast ≤ self.now.count) }
+        ensures { SlowIs self.now fast result }
     {
-        let all = self.sizes;
         let count = self.count - fast;
-        let mut sizes = [0u8; 40];
-        let mut j = 0;
-        while j < count {
-            sizes[j] = all[fast + j];
-            j += 1;
-        }
+        let mut sizes = [0; 40];
+        sizes[..count].copy_from_slice(&self.sizes[fast..self.count]);
         Odometer {
             digits: [0; 40],
             sizes,

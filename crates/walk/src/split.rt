@@ -4,7 +4,6 @@ ghost use Rattle.std.specs.Prelude.{◌≡◌, ◌+◌, ◌*◌, ◌≤◌};
 ghost use Rattle.walk.specs.Digits.{Turning, PartsAre};
 
 use crate::odometer::Odometer;
-use problem::bytes::wide;
 
 // How many digits are fast, a lane for each of their assignments, and the chunks of sixteen lanes that a cell has.
 #[derive(Clone, Copy)]
@@ -14,46 +13,40 @@ pub struct Parts {
     pub chunks: usize,
 }
 
+impl Parts {
+    fn new(fast: usize, lanes: usize) -> Parts
+        requires { lanes ≤ 128 }
+        ensures { (result.fast ≡ fast) × (result.lanes ≡ lanes) × (lanes ≤ 16 * result.chunks) × (16 * result.chunks ≤ lanes + 15) }
+    {
+        Parts {
+            fast,
+            lanes,
+            chunks: lanes.div_ceil(16),
+        }
+    }
+}
+
 // The most chunks that a cell may have: 128 lanes, and fewer where all cells would take more than 57,344 bytes.
 fn most_chunks(nodes: usize) -> usize
     requires { nodes ≤ 2632 }
     ensures { (1 ≤ result) × (result ≤ 8) × (result * (42 + nodes) ≤ 3584) }
 {
-    let room = 3584 / (42 + nodes);
-    if 8 < room {
-        return 8;
-    }
-    room
+    (3584 / (42 + nodes)).min(8)
 }
 
 // The first digits are fast, as many as have no more assignments than there are lanes.
-pub fn split(all: Odometer, nodes: usize) -> Parts
-    requires { Turning all × (nodes ≤ 2632) }
-    ensures { PartsAre all nodes result }
+pub fn split(all: &Odometer, nodes: usize) -> Parts
+    requires { Turning all.now × (nodes ≤ 2632) }
+    ensures { PartsAre all.now nodes result }
 {
     let most = 16 * most_chunks(nodes);
-    let count = all.count;
-    let sizes = all.sizes;
-    let mut fast = 0;
     let mut lanes = 1;
-    while fast < count {
-        let more = lanes * wide(sizes[fast]);
+    for (fast, size) in all.sizes[..all.count].iter().enumerate() {
+        let more = lanes * usize::from(*size);
         if most < more {
-            return parted(fast, lanes);
+            return Parts::new(fast, lanes);
         }
         lanes = more;
-        fast += 1;
     }
-    parted(fast, lanes)
-}
-
-fn parted(fast: usize, lanes: usize) -> Parts
-    requires { lanes ≤ 128 }
-    ensures { (result.fast ≡ fast) × (result.lanes ≡ lanes) × (lanes ≤ 16 * result.chunks) × (16 * result.chunks ≤ lanes + 15) }
-{
-    Parts {
-        fast,
-        lanes,
-        chunks: (lanes + 15) / 16,
-    }
+    Parts::new(all.count, lanes)
 }

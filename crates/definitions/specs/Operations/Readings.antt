@@ -1,20 +1,9 @@
--- The paper's number and values for each case of the answer enums (01, 'Where each form goes', last paragraph). The promises
+-- The paper's number and values for each case of the answers (01, 'Where each form goes', last paragraph). The promises
 -- go through these readings. Assumes nothing.
-use Rattle.std.specs.Prelude.{ℕ}
+use Rattle.std.specs.Prelude.{ℕ, replicate, Result, Ok, Err}
 use Rattle.definitions.specs.Problem.Check.{Refused, refuse}
-use Rattle.definitions.specs.Operations.Answers.{
-  Answer,
-  refused,
-  given,
-  Counts,
-  Table,
-  Measure,
-  RangesAnswer,
-  isValid,
-  isFalsified,
-  isStopped,
-  Decided,
-}
+use Rattle.definitions.specs.Operations.Answers.{Answer, refused, given, RangesAnswer, isValid, isFalsified, isStopped, Decided}
+use Rattle.definitions.specs.Operations.Answers as paper
 use Rattle.definitions.specs.declared.Refusal.{Refusal}
 use Rattle.definitions.specs.declared.Refusal.TheVariants.{
   TooShort,
@@ -34,12 +23,11 @@ use Rattle.definitions.specs.declared.Refusal.TheVariants.{
   WrongRoot,
   ShortProblem,
 }
-use Rattle.definitions.specs.declared.Checked.{Checked}
-use Rattle.definitions.specs.declared.Eliminated.{Eliminated}
-use Rattle.definitions.specs.declared.Measured.{Measured}
+use Rattle.definitions.specs.declared.Counts.{Counts}
+use Rattle.definitions.specs.declared.Table.{Table}
 use Rattle.definitions.specs.declared.Ranges.{Ranges}
+use Rattle.definitions.specs.declared.Verdict.{Verdict}
 use Rattle.definitions.specs.declared.Decision.{Decision}
-use Rattle.definitions.specs.declared.Reading.{Reading}
 
 abbrev pub refusal_read : Refusal → Refused
 refusal_read TooShort = refuse 1 0
@@ -59,30 +47,33 @@ refusal_read (TooDeep k) = refuse 15 k
 refusal_read WrongRoot = refuse 16 0
 refusal_read ShortProblem = refuse 23 0
 
-abbrev pub checked_read : Checked → Answer Counts
-checked_read (Checked.Accepted f p) = given (record { functions = f; predicates = p })
-checked_read (Checked.Refused r) = refused (refusal_read r)
+abbrev pub checked_read : Result Counts Refusal → Answer paper.Counts
+checked_read (Ok c) = given (record { functions = c.functions; predicates = c.predicates })
+checked_read (Err r) = refused (refusal_read r)
 
-abbrev pub eliminated_read : Eliminated → Answer Table
-eliminated_read (Eliminated.Table nodes root) = given (record { nodes = nodes; root = root })
-eliminated_read (Eliminated.Refused r) = refused (refusal_read r)
+abbrev pub eliminated_read : Result Table Refusal → Answer paper.Table
+eliminated_read (Ok t) = given (record { nodes = t.nodes; root = t.root })
+eliminated_read (Err r) = refused (refusal_read r)
 
-abbrev pub measured_read : Measured → Answer Measure
-measured_read (Measured.Given truths product) = given (record { truths = truths; product = product })
-measured_read (Measured.Refused r) = refused (refusal_read r)
+abbrev pub ranges_read : Result Ranges Refusal → RangesAnswer
+ranges_read (Ok r) = record { tops = r.tops; answer = given (record { truths = r.truths; product = r.product }) }
+ranges_read (Err r) = record { tops = replicate 24 0; answer = refused (refusal_read r) }
 
-abbrev pub ranges_read : Ranges → RangesAnswer
-ranges_read r = record { tops = r.tops; answer = measured_read r.answer }
+abbrev pub verdict_read : Verdict → paper.Verdict
+verdict_read Verdict.Valid = isValid
+verdict_read (Verdict.Falsified written) = isFalsified
+verdict_read Verdict.Stopped = isStopped
 
-abbrev pub decision_read : Decision → Answer Decided
-decision_read (Decision.Valid tried product) =
-    given (record { verdict = isValid; tried = tried; product = product; written = 0 })
-decision_read (Decision.Falsified tried product written) =
-    given (record { verdict = isFalsified; tried = tried; product = product; written = written })
-decision_read (Decision.Stopped tried product) =
-    given (record { verdict = isStopped; tried = tried; product = product; written = 0 })
-decision_read (Decision.Refused r) = refused (refusal_read r)
+abbrev pub written_read : Verdict → ℕ
+written_read Verdict.Valid = 0
+written_read (Verdict.Falsified written) = written
+written_read Verdict.Stopped = 0
 
-abbrev pub reading_read : Reading → Answer ℕ
-reading_read (Reading.Problem written) = given written
-reading_read (Reading.Refused r) = refused (refusal_read r)
+abbrev pub decision_read : Result Decision Refusal → Answer Decided
+decision_read (Ok d) =
+    given (record { verdict = verdict_read d.verdict; tried = d.tried; product = d.product; written = written_read d.verdict })
+decision_read (Err r) = refused (refusal_read r)
+
+abbrev pub reading_read : Result ℕ Refusal → Answer ℕ
+reading_read (Ok written) = given written
+reading_read (Err r) = refused (refusal_read r)

@@ -8,6 +8,7 @@ use mathlib.Core.Logic.{◌⊎◌, inl, inr}
 use lib.ListN.{length, drop}
 use lib.Dec.{ltb}
 use borrow.Author.Tests.{lt-ltb, le-ltb}
+use Rattle.std.specs.Prelude.{Result, Ok, Err}
 use Rattle.definitions.specs.Operations.Answers.{Answer, refused, given}
 use Rattle.definitions.specs.Operations.Buffers.{over}
 use Rattle.definitions.specs.Operations.Readings.{reading_read}
@@ -16,7 +17,6 @@ use Rattle.definitions.specs.Operations.Promises.{ReadPromise, HostReadPromise}
 use Rattle.definitions.specs.Text.Grammar.{Script}
 use Rattle.definitions.specs.Text.Nodes.{problem_of_script, read_answer, read_buffer}
 use Rattle.definitions.specs.declared.Refusal.{Refusal}
-use Rattle.definitions.specs.declared.Reading.{Reading}
 use Rattle.theorems.specs.Conditions.{number, place}
 use Rattle.theorems.specs.Called.{verdict_in, refusal_in, place_in, tried_in}
 use Rattle.theorems.specs.ReadConditions.{TakesText, RefusesText}
@@ -56,7 +56,7 @@ module _
 
   -- in a longer one stand the bytes of an answer that is read's, and then what stood there
   pub record Calls : Type 0 where
-    pub reading : Reading
+    pub reading : Result ℕ Refusal
     pub keeps : ReadPromise text problem reading problem'
     pub bytes : answer' ≡ over (read_bytes (reading_read reading)) answer
     pub returns_one : r ≡ 1
@@ -88,9 +88,9 @@ module _
   ToldRefused =
       (x : Refusal) × ((verdict_in answer' ≡ 0) × (refusal_in answer' ≡ number x) × (place_in answer' ≡ place x) × RefusesText text (length problem) x × (problem' ≡ problem))
 
-  told_by : length text < 256 ^ 8 → (q : Reading) → ReadPromise text problem q problem' → answer' ≡ over (read_bytes (reading_read q)) answer → ToldRead ⊎ ToldRefused
-  told_by h (Reading.Problem written) keeps e =
-      let t = (read_taken text problem (Reading.Problem written) problem' keeps written).0 refl in
+  told_by : length text < 256 ^ 8 → (q : Result ℕ Refusal) → ReadPromise text problem q problem' → answer' ≡ over (read_bytes (reading_read q)) answer → ToldRead ⊎ ToldRefused
+  told_by h (Ok written) keeps e =
+      let t = (read_taken text problem (Ok written) problem' keeps written).0 refl in
       let s = t.0 in
       let short = problem_short text (length problem) s t.1.0 in
       let w = t.1.1 in
@@ -100,11 +100,11 @@ module _
           ap verdict_in e,
           t.1.0,
           ap tried_in e ∙ bytes_back 8 written (omega arith) ∙ w,
-          taken_written text problem (Reading.Problem written) problem' keeps s t.1.0,
+          taken_written text problem (Ok written) problem' keeps s t.1.0,
         ),
       )
-  told_by h (Reading.Refused x) keeps e =
-      let m = (read_refused text problem (Reading.Refused x) problem' keeps x).0 refl in
+  told_by h (Err x) keeps e =
+      let m = (read_refused text problem (Err x) problem' keeps x).0 refl in
       let small = place_within text (length problem) x m in
       inr (
         x,
@@ -113,7 +113,7 @@ module _
           ap refusal_in e,
           ap place_in e ∙ bytes_back 8 (place x) (omega arith),
           m,
-          refused_kept text problem (Reading.Refused x) problem' keeps x refl,
+          refused_kept text problem (Err x) problem' keeps x refl,
         ),
       )
 

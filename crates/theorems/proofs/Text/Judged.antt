@@ -7,6 +7,7 @@ use mathlib.Core.List.{List, [], ◌∷◌}
 use mathlib.Core.Logic.{◌⊎◌, inl, inr, ◌↔◌}
 use mathlib.Core.Option.{none}
 use lib.ListN.{length}
+use Rattle.std.specs.Prelude.{Result, Ok, Err}
 use Rattle.definitions.specs.Problem.Asked.{asked, last_node, refusal_of}
 use Rattle.definitions.specs.Logic.{ValidAt}
 use Rattle.definitions.specs.Ranges.{product}
@@ -35,9 +36,10 @@ use Rattle.definitions.specs.declared.Refusal.TheVariants.{
   WrongRoot,
   ShortProblem,
 }
+use Rattle.definitions.specs.declared.Verdict.{Verdict}
 use Rattle.definitions.specs.declared.Decision.{Decision}
 use Rattle.theorems.specs.Conditions.{Meets, Passes, PassesTwelve}
-use Rattle.theorems.specs.Searched.{FalsifiableAt}
+use Rattle.theorems.specs.Searched.{FalsifiableAt, with_verdict, valid_answer, falsified_answer}
 use Rattle.theorems.specs.Texts.{Sat}
 use Rattle.theorems.specs.ReadConditions.{TakesText}
 use Rattle.theorems.proofs.Laws.First.{first_none}
@@ -86,7 +88,7 @@ module _
     (takes : TakesText text room s)
     (budget : ℕ)
     (work witness : List ℕ)
-    (d : Decision)
+    (d : Result Decision Refusal)
     (work' witness' : List ℕ)
     (decision : DecidePromise budget (last_node (problem_of_script s)) (problem_of_script s) work witness d work' witness') where
   abbrev on : List ℕ
@@ -102,43 +104,47 @@ module _
   ok : refusal_of on root ≡ none
   ok = text_taken text room s takes
 
-  pub refused_judged : (x : Refusal) → d ≡ Decision.Refused x → (x ≡ ShortWork) ⊎ ((x ≡ ShortWitness) ⊎ (x ≡ BigProduct))
+  pub refused_judged : (x : Refusal) → d ≡ Err x → (x ≡ ShortWork) ⊎ ((x ≡ ShortWitness) ⊎ (x ≡ BigProduct))
   refused_judged x e =
       left_over on root (length work) (length witness) ok x ((refused_means budget root on work witness d work' witness' decision x).0.0 e).0
 
-  pub valid_judged : (tried places : ℕ) → d ≡ Decision.Valid tried places → Unsat s
+  pub valid_judged : (tried places : ℕ) → d ≡ valid_answer tried places → Unsat s
   valid_judged tried places e = (unsat_exactly text room s takes).1 (valid_means budget root on work witness d work' witness' decision tried places e).3
 
-  pub falsified_judged : (tried places bytes : ℕ) → d ≡ Decision.Falsified tried places bytes → asserts_true (tables_of witness') s ≡ true
+  pub falsified_judged : (tried places bytes : ℕ) → d ≡ falsified_answer tried places bytes → asserts_true (tables_of witness') s ≡ true
   falsified_judged tried places bytes e =
       asserts_true_lem text room s takes (tables_of witness') (falsified_means budget root on work witness d work' witness' decision tried places bytes e).6
 
   -- with room for the job and a budget of at least the product, the verdict is the script's
   module _ (work_long : 21056 ≤ length work) (room_long : 206 ≤ length witness) (small : product a ≤ 10 ^ 18) (enough : product a ≤ budget) where
-    both : ((d ≡ Decision.Valid (product a) (product a)) ↔ ValidAt on root)
-        × (((tried bytes : ℕ) × (d ≡ Decision.Falsified tried (product a) bytes)) ↔ FalsifiableAt on root)
+    both : ((d ≡ valid_answer (product a) (product a)) ↔ ValidAt on root)
+        × (((tried bytes : ℕ) × (d ≡ falsified_answer tried (product a) bytes)) ↔ FalsifiableAt on root)
     both =
         enough_means budget root on work witness d work' witness' decision
         (all_pass on root (length work) (length witness) ok work_long room_long small) enough
 
-    pub unsat_judged : (d ≡ Decision.Valid (product a) (product a)) ↔ Unsat s
+    pub unsat_judged : (d ≡ valid_answer (product a) (product a)) ↔ Unsat s
     unsat_judged = (λ e. (unsat_exactly text room s takes).1 (both.0.0 e), λ u. both.0.1 ((unsat_exactly text room s takes).0 u))
 
-    pub sat_judged : ((tried bytes : ℕ) × (d ≡ Decision.Falsified tried (product a) bytes)) ↔ Sat s
+    pub sat_judged : ((tried bytes : ℕ) × (d ≡ falsified_answer tried (product a) bytes)) ↔ Sat s
     sat_judged = (λ e. (sat_exactly text room s takes).1 (both.1.0 e), λ m. both.1.1 ((sat_exactly text room s takes).0 m))
 
     -- some verdict comes, and it is not stopped
-    pub not_unsat_judged : (Unsat s → ⊥) → (tried bytes : ℕ) × (d ≡ Decision.Falsified tried (product a) bytes)
+    pub not_unsat_judged : (Unsat s → ⊥) → (tried bytes : ℕ) × (d ≡ falsified_answer tried (product a) bytes)
     not_unsat_judged n = go d refl
       where
-        go : (r : Decision) → d ≡ r → (tried bytes : ℕ) × (d ≡ Decision.Falsified tried (product a) bytes)
-        go (Decision.Valid tried places) e = absurd (n (valid_judged tried places e))
-        go (Decision.Falsified tried places bytes) e =
+        by : (v : Verdict) (tried places : ℕ) → d ≡ with_verdict v tried places
+            → (tried bytes : ℕ) × (d ≡ falsified_answer tried (product a) bytes)
+        by Verdict.Valid tried places e = absurd (n (valid_judged tried places e))
+        by (Verdict.Falsified bytes) tried places e =
             let places_are = (falsified_means budget root on work witness d work' witness' decision tried places bytes e).0 in
-            (tried, bytes, e ∙ ap (λ (k : ℕ). Decision.Falsified tried k bytes) places_are)
-        go (Decision.Stopped tried places) e =
+            (tried, bytes, e ∙ ap (λ (k : ℕ). falsified_answer tried k bytes) places_are)
+        by Verdict.Stopped tried places e =
             let b = (stopped_means budget root on work witness d work' witness' decision tried places e).2 in absurd (omega arith)
-        go (Decision.Refused x) e =
+
+        go : (r : Result Decision Refusal) → d ≡ r → (tried bytes : ℕ) × (d ≡ falsified_answer tried (product a) bytes)
+        go (Ok r) e = by r.verdict r.tried r.product e
+        go (Err x) e =
             absurd
             ((taken_means budget root on work witness d work' witness' decision).1
             (all_pass on root (length work) (length witness) ok work_long room_long small) x e)

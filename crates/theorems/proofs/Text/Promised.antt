@@ -5,6 +5,7 @@ use mathlib.Core.List.{List}
 use mathlib.Core.Logic.{◌↔◌}
 use lib.ListN.{length, take, drop}
 use lib.Seq.{take_at}
+use Rattle.std.specs.Prelude.{Result, Ok, Err}
 use Rattle.definitions.specs.Operations.Answers.{Answer, refused, given}
 use Rattle.definitions.specs.Operations.Buffers.{over}
 use Rattle.definitions.specs.Operations.Readings.{refusal_read, reading_read}
@@ -13,14 +14,13 @@ use Rattle.definitions.specs.Text.Grammar.{Script}
 use Rattle.definitions.specs.Text.Reader.{script_read}
 use Rattle.definitions.specs.Text.Nodes.{problem_of_script, taken, length_read, buffer_read, read_answer, read_buffer}
 use Rattle.definitions.specs.declared.Refusal.{Refusal}
-use Rattle.definitions.specs.declared.Reading.{Reading}
 use Rattle.theorems.specs.ReadConditions.{TakesText, RefusesText}
 use Rattle.theorems.proofs.Unique.{reading_apart}
 use Rattle.theorems.proofs.Laws.Tests.{clash}
 use Rattle.theorems.proofs.Text.Taken.Exactly.{read_means}
 use Rattle.theorems.proofs.Text.Refused.{takes_exactly, refuses_exactly}
 
-module _ (text problem : List ℕ) (r : Reading) (problem' : List ℕ) (promise : ReadPromise text problem r problem') where
+module _ (text problem : List ℕ) (r : Result ℕ Refusal) (problem' : List ℕ) (promise : ReadPromise text problem r problem') where
   -- the answer and the buffer, by what is taken
   answer_by : (a : Answer Script) → taken text (length problem) ≡ a → reading_read r ≡ length_read a
   unfolding read_answer
@@ -30,24 +30,24 @@ module _ (text problem : List ℕ) (r : Reading) (problem' : List ℕ) (promise 
   unfolding read_buffer
   buffer_by a e = promise.problem_after ∙ ap (λ (a : Answer Script). buffer_read a problem) e
 
-  pub read_refused : (x : Refusal) → (r ≡ Reading.Refused x) ↔ RefusesText text (length problem) x
+  pub read_refused : (x : Refusal) → (r ≡ Err x) ↔ RefusesText text (length problem) x
   read_refused x = (
     λ e. (refuses_exactly text (length problem) x).0 (go (taken text (length problem)) refl (sym (ap reading_read e) ∙ answer_by (taken text (length problem)) refl)),
-    λ m. reading_apart r (Reading.Refused x) (answer_by (refused (refusal_read x)) ((refuses_exactly text (length problem) x).1 m)),
+    λ m. reading_apart r (Err x) (answer_by (refused (refusal_read x)) ((refuses_exactly text (length problem) x).1 m)),
   )
     where
       go : (a : Answer Script) → taken text (length problem) ≡ a → refused (refusal_read x) ≡ length_read a → taken text (length problem) ≡ refused (refusal_read x)
       go (refused q) p e = cc
       go (given s) p e = clash (cc)
 
-  pub refused_kept : (x : Refusal) → r ≡ Reading.Refused x → problem' ≡ problem
+  pub refused_kept : (x : Refusal) → r ≡ Err x → problem' ≡ problem
   refused_kept x e = buffer_by (refused (refusal_read x)) ((refuses_exactly text (length problem) x).1 ((read_refused x).0 e))
 
-  pub read_taken : (written : ℕ) → (r ≡ Reading.Problem written) ↔ ((s : Script) × (TakesText text (length problem) s × (written ≡ length (problem_of_script s))))
+  pub read_taken : (written : ℕ) → (r ≡ Ok written) ↔ ((s : Script) × (TakesText text (length problem) s × (written ≡ length (problem_of_script s))))
   read_taken written = (
     λ e. go (taken text (length problem)) refl (sym (ap reading_read e) ∙ answer_by (taken text (length problem)) refl),
     λ t.
-        reading_apart r (Reading.Problem written)
+        reading_apart r (Ok written)
         (answer_by (given t.0) ((takes_exactly text (length problem) t.0).1 t.1.0) ∙ ap given (sym t.1.1)),
   )
     where
@@ -60,9 +60,9 @@ module _ (text problem : List ℕ) (r : Reading) (problem' : List ℕ) (promise 
   taken_written s t = buffer_by (given s) ((takes_exactly text (length problem) s).1 t)
 
 -- where a problem is answered
-module _ (text problem : List ℕ) (written : ℕ) (problem' : List ℕ) (promise : ReadPromise text problem (Reading.Problem written) problem') where
+module _ (text problem : List ℕ) (written : ℕ) (problem' : List ℕ) (promise : ReadPromise text problem (Ok written) problem') where
   found : (s : Script) × (TakesText text (length problem) s × (written ≡ length (problem_of_script s)))
-  found = (read_taken text problem (Reading.Problem written) problem' promise written).0 refl
+  found = (read_taken text problem (Ok written) problem' promise written).0 refl
 
   pub script_read_lem : (s : Script) × (script_read text ≡ given s)
   script_read_lem = (found.0, (read_means text found.0).1 found.1.0.reads)
@@ -85,5 +85,5 @@ module _ (text problem : List ℕ) (written : ℕ) (problem' : List ℕ) (promis
     pub script_bytes : take written problem' ≡ problem_of_script s
     script_bytes =
         ap (λ (k : ℕ). take k problem') takes_this.1
-        ∙ ap (take (length (problem_of_script s))) (taken_written text problem (Reading.Problem written) problem' promise s script_takes)
+        ∙ ap (take (length (problem_of_script s))) (taken_written text problem (Ok written) problem' promise s script_takes)
         ∙ take_at (problem_of_script s) (drop (length (problem_of_script s)) problem) (length (problem_of_script s)) refl

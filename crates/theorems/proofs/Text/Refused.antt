@@ -9,6 +9,7 @@ use mathlib.Core.Option.{Option, none, some}
 use lib.ListN.{length}
 use lib.Dec.{ltb}
 use borrow.Author.Tests.{ltb-true, ltb-false, lt-ltb, le-ltb}
+use Rattle.std.specs.Prelude.{Result, Ok, Err}
 use Rattle.definitions.specs.Lists.{first_of}
 use Rattle.definitions.specs.Problem.Check.{functions_in, predicates_in, Refused, refuse, refuse_if}
 use Rattle.definitions.specs.Operations.Answers.{Answer, refused, given, unless}
@@ -16,7 +17,6 @@ use Rattle.definitions.specs.Operations.Readings.{refusal_read, reading_read}
 use Rattle.definitions.specs.Text.Grammar.{Script}
 use Rattle.definitions.specs.Text.Reader.{script_read}
 use Rattle.definitions.specs.Text.Nodes.{nodes_of_script, bytes_of_script, limits_of_script, problem_of_script, within_limits, if_room, taken, length_read, read_answer}
-use Rattle.definitions.specs.declared.Reading.{Reading}
 use Rattle.definitions.specs.declared.Refusal.{Refusal}
 use Rattle.definitions.specs.declared.Refusal.TheVariants.{
   TooShort,
@@ -183,13 +183,13 @@ module _ (text : List ℕ) (room : ℕ) where
       go (refuses y r) e = let same : refusal_read y ≡ refusal_read x = cc in subst (RefusesText text room) (refusal_apart y x same) r
 
   -- some answer is read's, whatever the text
-  pub reads : (q : Reading) × (reading_read q ≡ read_answer text room)
+  pub reads : (q : Result ℕ Refusal) × (reading_read q ≡ read_answer text room)
   unfolding read_answer
   reads = go says
     where
-      go : {a : Answer Script} → Says text room a → (q : Reading) × (reading_read q ≡ length_read a)
-      go (takes s t) = (Reading.Problem (length (problem_of_script s)), refl)
-      go (refuses x r) = (Reading.Refused x, refl)
+      go : {a : Answer Script} → Says text room a → (q : Result ℕ Refusal) × (reading_read q ≡ length_read a)
+      go (takes s t) = (Ok (length (problem_of_script s)), refl)
+      go (refuses x r) = (Err x, refl)
 
   -- the place of a refusal is one of the text's, or its end
   pub place_within : (x : Refusal) → RefusesText text room x → place x ≤ length text

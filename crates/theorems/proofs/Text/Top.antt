@@ -15,6 +15,7 @@ use mathlib.Core.Bool.{true, not}
 use mathlib.Core.List.{List}
 use mathlib.Core.Logic.{◌⊎◌, ◌↔◌}
 use lib.ListN.{length, take}
+use Rattle.std.specs.Prelude.{Result, Ok, Err}
 use Rattle.definitions.specs.Problem.Asked.{asked, last_node}
 use Rattle.definitions.specs.Logic.{Interpretation, holds_at}
 use Rattle.definitions.specs.Ranges.{product}
@@ -30,7 +31,7 @@ use Rattle.definitions.specs.Text.Nodes.{Tree, not_tree, joined, nodes_of_script
 use Rattle.definitions.specs.declared.Refusal.{Refusal}
 use Rattle.definitions.specs.declared.Refusal.TheVariants.{ShortWork, ShortWitness, BigProduct}
 use Rattle.definitions.specs.declared.Decision.{Decision}
-use Rattle.definitions.specs.declared.Reading.{Reading}
+use Rattle.theorems.specs.Searched.{valid_answer, falsified_answer}
 use Rattle.theorems.specs.Texts.{Sat, Rises}
 use Rattle.theorems.specs.ReadConditions.{TakesText, RefusesText}
 use Rattle.theorems.specs.Origins.{NodeOf, Origin, trees_of_script, NoTwins}
@@ -49,15 +50,15 @@ use Rattle.theorems.proofs.Text.Judged.{
   not_unsat_judged,
 }
 
-module _ (text problem : List ℕ) (r : Reading) (problem' : List ℕ) (promise : ReadPromise text problem r problem') where
+module _ (text problem : List ℕ) (r : Result ℕ Refusal) (problem' : List ℕ) (promise : ReadPromise text problem r problem') where
   -- REFUSED: a refusal comes exactly where the text is so, in the order tried, and writes nothing
   pub read_refused_means : (x : Refusal)
-      → ((r ≡ Reading.Refused x) ↔ RefusesText text (length problem) x) × (r ≡ Reading.Refused x → problem' ≡ problem)
+      → ((r ≡ Err x) ↔ RefusesText text (length problem) x) × (r ≡ Err x → problem' ≡ problem)
   read_refused_means x = (read_refused text problem r problem' promise x, refused_kept text problem r problem' promise x)
 
   -- TAKEN: a problem is answered exactly where the text is taken, with its length; the buffer holds it, and then what stood there
   pub read_taken_means : (written : ℕ)
-      → ((r ≡ Reading.Problem written) ↔ ((s : Script) × (TakesText text (length problem) s × (written ≡ length (problem_of_script s)))))
+      → ((r ≡ Ok written) ↔ ((s : Script) × (TakesText text (length problem) s × (written ≡ length (problem_of_script s)))))
       × ((s : Script) → TakesText text (length problem) s → problem' ≡ over (problem_of_script s) problem)
   read_taken_means written = (read_taken text problem r problem' promise written, taken_written text problem r problem' promise)
 
@@ -87,7 +88,7 @@ module _
     (text problem : List ℕ)
     (written : ℕ)
     (problem' : List ℕ)
-    (reading : ReadPromise text problem (Reading.Problem written) problem') where
+    (reading : ReadPromise text problem (Ok written) problem') where
   -- SCRIPT: a text that is answered with a problem has a script; script_read says which, so there is one
   pub script_means : (s : Script) × (script_read text ≡ given s)
   script_means = script_read_lem text problem written problem' reading
@@ -97,7 +98,7 @@ module _
       (reads : script_read text ≡ given s)
       (budget : ℕ)
       (work witness : List ℕ)
-      (d : Decision)
+      (d : Result Decision Refusal)
       (work' witness' : List ℕ)
       (decision : DecidePromise budget (last_node (take written problem')) (take written problem') work witness d work' witness') where
     takes : TakesText text (length problem) s
@@ -113,23 +114,23 @@ module _
     a = asked (problem_of_script s) (last_node (problem_of_script s))
 
     -- JUDGED: decide refuses what was read only for a short buffer or a big product; 1 to 7, 16, 9 and 10 never come
-    pub judged_means : (x : Refusal) → d ≡ Decision.Refused x → (x ≡ ShortWork) ⊎ ((x ≡ ShortWitness) ⊎ (x ≡ BigProduct))
+    pub judged_means : (x : Refusal) → d ≡ Err x → (x ≡ ShortWork) ⊎ ((x ≡ ShortWitness) ⊎ (x ≡ BigProduct))
     judged_means = refused_judged text (length problem) s takes budget work witness d work' witness' on_script
 
     -- UNSAT: valid says that no interpretation makes every assert true
-    pub unsat_means : (tried places : ℕ) → d ≡ Decision.Valid tried places → Unsat s
+    pub unsat_means : (tried places : ℕ) → d ≡ valid_answer tried places → Unsat s
     unsat_means = valid_judged text (length problem) s takes budget work witness d work' witness' on_script
 
     -- SAT: falsified says that the tables written make every assert true
-    pub sat_means : (tried places bytes : ℕ) → d ≡ Decision.Falsified tried places bytes → asserts_true (tables_of witness') s ≡ true
+    pub sat_means : (tried places bytes : ℕ) → d ≡ falsified_answer tried places bytes → asserts_true (tables_of witness') s ≡ true
     sat_means = falsified_judged text (length problem) s takes budget work witness d work' witness' on_script
 
     -- ENOUGH: with buffers and a product that decide takes, and a budget of at least the product, it is valid exactly where the
     -- script is unsat, falsified exactly where it is sat, and one of the two
     pub enough_means : 21056 ≤ length work → 206 ≤ length witness → product a ≤ 10 ^ 18 → product a ≤ budget
-        → ((d ≡ Decision.Valid (product a) (product a)) ↔ Unsat s)
-        × (((tried bytes : ℕ) × (d ≡ Decision.Falsified tried (product a) bytes)) ↔ Sat s)
-        × ((Unsat s → ⊥) → (tried bytes : ℕ) × (d ≡ Decision.Falsified tried (product a) bytes))
+        → ((d ≡ valid_answer (product a) (product a)) ↔ Unsat s)
+        × (((tried bytes : ℕ) × (d ≡ falsified_answer tried (product a) bytes)) ↔ Sat s)
+        × ((Unsat s → ⊥) → (tried bytes : ℕ) × (d ≡ falsified_answer tried (product a) bytes))
     enough_means w r p h = (
       unsat_judged text (length problem) s takes budget work witness d work' witness' on_script w r p h,
       sat_judged text (length problem) s takes budget work witness d work' witness' on_script w r p h,

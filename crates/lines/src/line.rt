@@ -1,0 +1,69 @@
+// A line as it is written: the bytes so far, of at most 256.
+ghost use Rattle.std.specs.Prelude.{◌≡◌, ◌+◌, ◌≤◌, [], ◌++◌, length};
+ghost use Rattle.definitions.specs.Night.{word, decimal};
+
+use itoa::Buffer;
+use std::marker::Model;
+
+#[derive(Drop)]
+pub struct Line {
+    bytes: [u8; 256],
+    len: usize,
+}
+
+impl Model for Line {
+    ghost use Rattle.std.specs.Prelude.{ℕ, List, ◌≤◌, take};
+
+    ghost Value = { List ℕ };
+
+    ghost view = { λ l. take l.len l.bytes };
+
+    ghost invariant = { λ l. l.len ≤ 256 };
+}
+
+impl Line {
+    pub fn new() -> Line
+        ensures { result ≡ [] }
+    {
+        Line {
+            bytes: [0; 256],
+            len: 0,
+        }
+    }
+
+    pub fn as_bytes(&self) -> &[u8]
+        ensures { result.now ≡ self.now }
+    {
+        &self.bytes[..self.len]
+    }
+
+    pub fn put(&mut self, bytes: &[u8])
+        requires { length self.old + length bytes.now ≤ 256 }
+        ensures { self.new ≡ self.old ++ bytes.now }
+    {
+        let end = self.len + bytes.len();
+        self.bytes[self.len..end].copy_from_slice(bytes);
+        self.len = end;
+    }
+
+    // The digits of a number. A 64-bit number has at most 20.
+    #[tactic(auto, using(crate::proofs::Decimal::same_decimal))]
+    pub fn put_digits(&mut self, n: u64)
+        requires { length self.old + 20 ≤ 256 }
+        ensures digits { self.new ≡ self.old ++ decimal n }
+        ensures short { length self.new ≤ length self.old + 20 }
+    {
+        let mut digits = Buffer::new();
+        self.put(digits.format(n).as_bytes());
+    }
+
+    // A space and a number.
+    pub fn put_number(&mut self, n: u64)
+        requires { length self.old + 21 ≤ 256 }
+        ensures number { self.new ≡ self.old ++ word (decimal n) }
+        ensures short { length self.new ≤ length self.old + 21 }
+    {
+        self.put(b" ");
+        self.put_digits(n);
+    }
+}
