@@ -18,7 +18,3 @@ AskRead root s (Err r) = ask_refusal s root ≡ some (refusal_read r)
 -- 9 and 10 on the problem asked, or its counts
 pub record Counted (a : List ℕ) (r : Result Counts Refusal) : Type 0 where
   pub answers : checked_read r ≡ unless (limit_refusal a) (counts a)
-
--- something is so for every problem and root of which a is the problem asked
-abbrev pub ForAsked : List ℕ → (ℕ → List ℕ → Type 0) → Type 0
-ForAsked a P = (s : List ℕ) (root : ℕ) → Asks s root a → P root s

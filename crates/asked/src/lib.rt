@@ -13,8 +13,8 @@ use problem::head::Problem;
 use problem::layout;
 use problem::ops::Op;
 
-pub mod reach;
-pub mod trim;
+mod reach;
+mod trim;
 
 pub fn check(root: usize, bytes: &[u8]) -> Result<Counts, Refusal>
     ensures { CheckPromise root bytes.now result }

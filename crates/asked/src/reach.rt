@@ -7,7 +7,8 @@ ghost use Rattle.asked.specs.Reached.{operands_at, Marked, Reaching};
 
 use problem::head::Problem;
 
-// The operands in use of node k are marked.
+// The operands in use of node k are marked. That the table is well formed (`Layout`) is asked here, below and in trim, and is no invariant of
+// `Problem`: conditions 6 and 7 are tested on a `Problem`, and a second type would need all its methods again.
 fn mark_operands(problem: &Problem<'_>, k: usize, marks: &mut [u8])
     requires { Layout problem.now × (k < node_count problem.now) × (length marks.old ≡ 256) }
     ensures { Marked (operands_at problem.now k) marks.old marks.new }

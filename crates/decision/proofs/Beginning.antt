@@ -1,9 +1,9 @@
 -- The odometer at place 1, from its sizes one by one. Assumes nothing.
 use mathlib.Core.Path.{◌≡◌, refl, sym, ap, ap₂, ◌∙◌}
 use borrow.Rule.Slice.PartMut.{put_mid}
-use Prim.Native.Nat.{ℕ, suc, ◌+◌, ◌-◌, ◌≤◌, ◌<◌}
+use Prim.Native.Nat.{ℕ, ◌+◌, ◌-◌, ◌≤◌, ◌<◌}
 use native.Mathlib.Omega.{arith}
-use mathlib.Core.List.{List, [], ◌∷◌, ◌++◌}
+use mathlib.Core.List.{List, ◌++◌}
 use mathlib.Core.Logic.{inl, inr}
 use Rattle.std.proofs.lemmas.List.{drop-replicate}
 use lib.ListN.{length, get_or, take, drop, replicate, length-replicate, length-append, length-drop, get_or-replicate, get_or-append}
@@ -11,13 +11,12 @@ use lib.Seq.{get_or-take, length-take-le, get_or-append-add, get_or-append_right
 use Rattle.definitions.specs.Ranges.{sizes}
 use Rattle.definitions.specs.Places.{first}
 use Rattle.theorems.proofs.Laws.Tests.{split}
-use Rattle.theorems.proofs.Search.Places.{Positive}
 use Rattle.ranges.specs.declared.Shape.{Shape}
 use Rattle.ranges.proofs.Filled.{zeros}
-use Rattle.walk.specs.Digits.{digits_of, sizes_in, Turning}
+use Rattle.walk.specs.Turning.{Turning}
+use Rattle.walk.specs.Digits.{digits_of, sizes_in}
 use Rattle.walk.specs.Walked.{Starts}
 use Rattle.walk.specs.declared.odometer.Odometer.{Odometer}
-use Rattle.walk.proofs.Turns.{within_of}
 
 -- sizes one by one: the tops of the variables, 2 for each truth variable, and zeros
 pub record Sized (tops : List ℕ) (s : Shape) (ss : List ℕ) : Type 0 where
@@ -94,9 +93,6 @@ module _ {tops : List ℕ} {s : Shape} {ss : List ℕ} (z : Sized tops s ss) whe
   abbrev P : ℕ
   P = s.truths
 
-  abbrev o : Odometer
-  o = record { digits = replicate 40 0; sizes = ss; count = N + P }
-
   in_use : length (take (N + P) ss) ≡ N + P
   in_use = let l = z.long in let n = z.few in let p = z.fewer in length-take-le (N + P) ss (omega arith)
 
@@ -114,17 +110,6 @@ module _ {tops : List ℕ} {s : Shape} {ss : List ℕ} (z : Sized tops s ss) whe
         | inr b ↦ let e = z.at_rest j b in omega arith
       ]
 
-  positive_of : (xs : List ℕ) → ((j : ℕ) → j < length xs → 1 ≤ get_or xs j 0) → Positive xs
-  positive_of [] h = tt
-  positive_of (x ∷ xs) h = (h 0 (omega arith), positive_of xs (λ j g. h (suc j) (omega arith)))
-
-  used_low : (j : ℕ) → j < length (take (N + P) ss) → 1 ≤ get_or (take (N + P) ss) j 0
-  used_low j h =
-      let l = in_use in
-      let e = get_or-take (N + P) ss j 0 (omega arith) in
-      let r = size_low j (omega arith) in
-      omega arith
-
   digits_length : length (take (N + P) (replicate {A = ℕ} 40 0)) ≡ N + P
   digits_length =
       let l = length-replicate {A = ℕ} 40 0 in
@@ -132,63 +117,58 @@ module _ {tops : List ℕ} {s : Shape} {ss : List ℕ} (z : Sized tops s ss) whe
       let p = z.fewer in
       length-take-le (N + P) (replicate 40 0) (omega arith)
 
-  turning : Turning o
+  pub turning : Turning (replicate 40 0) ss (N + P)
   turning =
       record {
         digits_long = length-replicate {A = ℕ} 40 0;
         sizes_long = z.long;
         few = let n = z.few in let p = z.fewer in omega arith;
         sizes_small = small;
-        positive = positive_of (sizes_in o) used_low;
-        within =
-            within_of (sizes_in o) (digits_of o) (digits_length ∙ sym in_use)
-            (λ j h.
-            let l = in_use in
-            let low = used_low j h in
-            let d = get_or-take (N + P) (replicate {A = ℕ} 40 0) j 0 (omega arith) in
-            let zero-here = zeros 40 j in
-            omega arith);
+        within = λ j h. let r = size_low j h in let d = zeros 40 j in omega arith;
         past = λ j h. zeros 40 j;
       }
 
-  first_digits : digits_of o ≡ first (sizes_in o)
-  first_digits =
-      ext_get_or 0 (digits_of o) (first (sizes_in o)) (digits_length ∙ sym (length-replicate {A = ℕ} (length (sizes_in o)) 0 ∙ in_use))
-      (λ j h.
-      let l = digits_length in
-      let u = in_use in
-      get_or-take (N + P) (replicate {A = ℕ} 40 0) j 0 (omega arith) ∙ zeros 40 j
-      ∙ sym (get_or-replicate (length (sizes_in o)) j 0 0 (omega arith)))
+  module _ (turns : Turning (replicate 40 0) ss (N + P)) where
+    abbrev o : Odometer
+    o = record { digits = replicate 40 0; sizes = ss; count = N + P; turning = turns }
 
-  tops_used : length (take N tops) ≡ N
-  tops_used = let n = z.few in (let t = z.tops_long in length-take-le N tops (omega arith))
+    first_digits : digits_of o ≡ first (sizes_in o)
+    first_digits =
+        ext_get_or 0 (digits_of o) (first (sizes_in o)) (digits_length ∙ sym (length-replicate {A = ℕ} (length (sizes_in o)) 0 ∙ in_use))
+        (λ j h.
+        let l = digits_length in
+        let u = in_use in
+        get_or-take (N + P) (replicate {A = ℕ} 40 0) j 0 (omega arith) ∙ zeros 40 j
+        ∙ sym (get_or-replicate (length (sizes_in o)) j 0 0 (omega arith)))
 
-  same_sizes : sizes_in o ≡ sizes (take N tops) P
-  same_sizes =
-      ext_get_or 0 (sizes_in o) (sizes (take N tops) P)
-      (in_use ∙ sym (length-append (take N tops) (replicate P 2) ∙ (let a = tops_used in let b = length-replicate {A = ℕ} P 2 in let q : length (take N tops) + length (replicate {A = ℕ} P 2) ≡ N + P = omega arith in q)))
-      (λ j h.
-      let u = in_use in
-      let a = tops_used in
-      get_or-take (N + P) ss j 0 (omega arith)
-      ∙ elim (split j N) [
-        | inl b ↦ z.at_variable j b ∙ sym (get_or-append (take N tops) (replicate P 2) 0 j (omega arith) ∙ get_or-take N tops j 0 b)
-        | inr b ↦
-            z.at_truth j b (omega arith)
-            ∙ sym
-            (ap (λ i. get_or (take N tops ++ replicate P 2) i 0) (let q : j ≡ length (take N tops) + (j - N) = omega arith in q)
-            ∙ get_or-append-add (take N tops) (replicate P 2) (j - N) 0
-            ∙ get_or-replicate P (j - N) 2 0 (omega arith))
-      ])
+    tops_used : length (take N tops) ≡ N
+    tops_used = let n = z.few in (let t = z.tops_long in length-take-le N tops (omega arith))
 
-  pub beginning : Starts s o × (sizes_in o ≡ sizes (take N tops) P)
-  beginning = (
-    record {
-      turning = turning;
-      count_is = refl;
-      at_first = first_digits;
-      small = λ j h. (size_low j (omega arith)).1;
-      bits = λ j h. z.at_truth (N + j) (omega arith) (omega arith);
-    },
-    same_sizes,
-  )
+    same_sizes : sizes_in o ≡ sizes (take N tops) P
+    same_sizes =
+        ext_get_or 0 (sizes_in o) (sizes (take N tops) P)
+        (in_use ∙ sym (length-append (take N tops) (replicate P 2) ∙ (let a = tops_used in let b = length-replicate {A = ℕ} P 2 in let q : length (take N tops) + length (replicate {A = ℕ} P 2) ≡ N + P = omega arith in q)))
+        (λ j h.
+        let u = in_use in
+        let a = tops_used in
+        get_or-take (N + P) ss j 0 (omega arith)
+        ∙ elim (split j N) [
+          | inl b ↦ z.at_variable j b ∙ sym (get_or-append (take N tops) (replicate P 2) 0 j (omega arith) ∙ get_or-take N tops j 0 b)
+          | inr b ↦
+              z.at_truth j b (omega arith)
+              ∙ sym
+              (ap (λ i. get_or (take N tops ++ replicate P 2) i 0) (let q : j ≡ length (take N tops) + (j - N) = omega arith in q)
+              ∙ get_or-append-add (take N tops) (replicate P 2) (j - N) 0
+              ∙ get_or-replicate P (j - N) 2 0 (omega arith))
+        ])
+
+    pub beginning : Starts s o × (sizes_in o ≡ sizes (take N tops) P)
+    beginning = (
+      record {
+        count_is = refl;
+        at_first = first_digits;
+        small = λ j h. (size_low j (omega arith)).1;
+        bits = λ j h. z.at_truth (N + j) (omega arith) (omega arith);
+      },
+      same_sizes,
+    )

@@ -87,9 +87,6 @@ module _ {x : Scope} (L : Laying x) where
         is_formula = ap₂ sort_at table_is e ∙ root_formula s L.accepted;
       }
 
-  pub values_fit : all.nodes ≡ shape.nodes
-  values_fit = ap (λ (h : Shape). h.nodes) (sym L.shape_is)
-
   tops_ranked : ts ≡ padded (map ranks (below N))
   unfolding tops_of tops
   tops_ranked = L.tops_are

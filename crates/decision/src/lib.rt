@@ -38,7 +38,8 @@ pub fn decide(
     if witness.len() < 206 {
         return Err(Refusal::ShortWitness);
     }
-    let laid = lay_table(&problem, work);
+    let mut laid = Laid::nothing();
+    lay_table(&problem, work, &mut laid);
     let table = FreeTable {
         bytes: work,
         shape: Shape::from(&laid),

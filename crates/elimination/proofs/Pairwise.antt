@@ -1,6 +1,5 @@
 -- The condition that arguments are equal in pairs, one argument after the other. Assumes nothing.
-use Rattle.std.proofs.Common.{◌≡◌, ℕ, zero, suc, ◌+◌, ◌*◌, ◌≤◌, ◌<◌, List, [], ◌∷◌, length, get_or, take, refl, sym, ap, ap₂, ◌∙◌, arith, add-one}
-use Rattle.std.proofs.Math.Seq.{take_all}
+use Rattle.std.proofs.Common.{◌≡◌, ℕ, zero, suc, ◌+◌, ◌*◌, ◌≤◌, ◌<◌, List, [], ◌∷◌, length, get_or, take, refl, sym, ap, ◌∙◌, arith, add-one}
 use Rattle.definitions.specs.Lists.{snoc}
 use Rattle.definitions.specs.Problem.Node.{Node, plain}
 use Rattle.definitions.specs.Elimination.{further, condition}
@@ -14,12 +13,6 @@ further_next out [] ys j h e = absurd (omega arith)
 further_next out (x ∷ xs) [] j h e = absurd (omega arith)
 further_next out (x ∷ xs) (y ∷ ys) zero h e = refl
 further_next out (x ∷ xs) (y ∷ ys) (suc j) h e = further_next (one_more x y out) xs ys j (omega arith) (omega arith)
-
-condition_first : (t : List Node) (xs ys : List ℕ) → 0 < length xs → length ys ≡ length xs
-    → condition t (take 1 xs) (take 1 ys) ≡ snoc t (plain 2 (get_or xs 0 0) (get_or ys 0 0) 0)
-condition_first t [] ys h e = absurd (omega arith)
-condition_first t (x ∷ xs) [] h e = absurd (omega arith)
-condition_first t (x ∷ xs) (y ∷ ys) h e = refl
 
 condition_next : (t : List Node) (xs ys : List ℕ) (j : ℕ) → 1 ≤ j → j < length xs → length ys ≡ length xs
     → condition t (take (suc j) xs) (take (suc j) ys) ≡ one_more (get_or xs j 0) (get_or ys j 0) (condition t (take j xs) (take j ys))
@@ -35,30 +28,15 @@ pub record Conditioned (xs ys before : List ℕ) (count : ℕ) (after : List ℕ
   pub reached : at + 1 ≡ count + 2 * j
   pub long : length after ≡ length before
 
-module _ {xs ys before : List ℕ} {count : ℕ} (h : 0 < length xs) (e : length ys ≡ length xs) where
-  pub conditioned_first : {after : List ℕ} (n : Node) → n ≡ plain 2 (get_or xs 0 0) (get_or ys 0 0) 0 → length after ≡ length before
-      → Lays before after count (count + 1) (λ t. snoc t n) → Conditioned xs ys before count after (count + 1) 1
-  conditioned_first n is l p =
-      record {
-        lays = lays_as (λ t k. ap (snoc t) is ∙ sym (condition_first t xs ys h e)) refl p;
-        reached = omega arith;
-        long = l;
-      }
-
-  module _ {work : List ℕ} {at j : ℕ} (c : Conditioned xs ys before count work at j) where
-    pub conditioned_next : {after : List ℕ} → 1 ≤ j → j < length xs → length after ≡ length work
-        → Lays work after at (at + 2) (one_more (get_or xs j 0) (get_or ys j 0)) → Conditioned xs ys before count after (at + 2) (j + 1)
-    conditioned_next i l k p =
-        record {
-          lays =
-              lays_as
-              (λ t q.
-              sym (condition_next t xs ys j i l e) ∙ ap (λ m. condition t (take m xs) (take m ys)) (sym (add-one j)))
-              refl (lays_on c.lays refl p);
-          reached = (let r = c.reached in omega arith);
-          long = k ∙ c.long;
-        }
-
-    pub conditioned_last : length xs ≤ j → Lays before work count at (λ t. condition t xs ys)
-    conditioned_last l =
-        lays_as (λ t q. ap₂ (condition t) (take_all j xs l) (take_all j ys (omega arith))) refl c.lays
+pub conditioned_next : {xs ys before work after : List ℕ} {count at j : ℕ} → length ys ≡ length xs
+    → Conditioned xs ys before count work at j → 1 ≤ j → j < length xs → length after ≡ length work
+    → Lays work after at (at + 2) (one_more (get_or xs j 0) (get_or ys j 0)) → Conditioned xs ys before count after (at + 2) (j + 1)
+conditioned_next {xs} {ys} {j = j} e c i l k p =
+    record {
+      lays =
+          lays_as
+          (λ t q. sym (condition_next t xs ys j i l e) ∙ ap (λ m. condition t (take m xs) (take m ys)) (sym (add-one j)))
+          refl (lays_on c.lays refl p);
+      reached = (let r = c.reached in omega arith);
+      long = k ∙ c.long;
+    }

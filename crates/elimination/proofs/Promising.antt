@@ -11,7 +11,7 @@ use lib.Seq.{get_or-take, take_all}
 use borrow.Author.Tests.{lt-ltb, le-ltb}
 use Rattle.std.specs.Prelude.{Ok, Err}
 use Rattle.definitions.specs.Problem.Node.{table_bytes}
-use Rattle.definitions.specs.Problem.Check.{node_count, symbols_of, nodes_of, functions_in, predicates_in}
+use Rattle.definitions.specs.Problem.Check.{node_count, symbols_of, nodes_of, predicates_in}
 use Rattle.definitions.specs.Problem.Check.{Refused, refuse}
 use Rattle.definitions.specs.Problem.Asked.{asked, ask_refusal, limit_refusal, refusal_of}
 use Rattle.definitions.specs.Elimination.{State, begin, steps, eliminated, table_of, root_of}
@@ -57,9 +57,6 @@ module _ {a : List ℕ} {n : declared.Counts} (p : Counted a (Ok n)) where
 
   told : record { functions = n.functions; predicates = n.predicates } ≡ counts a
   told = values_told _ (limit_refusal a) _ p.answers
-
-  pub functions_answered : n.functions ≡ functions_in (nodes_of a)
-  functions_answered = ap (λ (c : Counts). c.functions) told
 
   pub predicates_answered : n.predicates ≡ predicates_in (nodes_of a)
   predicates_answered = ap (λ (c : Counts). c.predicates) told

@@ -5,33 +5,16 @@ use native.Mathlib.Omega.{arith}
 use native.Mathlib.Numerals.{add-one}
 use mathlib.Core.List.{List, [], ◌∷◌, ◌++◌}
 use borrow.Author.Count.{below_more}
-use lib.ListN.{length, get_or, take, set, length-set, length-append, length-replicate}
+use lib.ListN.{length, get_or, take, set, length-set, length-append}
 use lib.Seq.{take-suc-set, get_or-set_same, get_or-set_other}
 use Rattle.definitions.specs.Lists.{snoc}
 use Rattle.definitions.specs.Problem.Node.{Node, node}
 use Rattle.definitions.specs.Problem.Check.{symbols_of, nodes_of}
 use Rattle.definitions.specs.Elimination.{App, State, last, node_on, images_of, applied, add_app, repeat, copy}
 use Rattle.theorems.proofs.Elimination.Steps.{of_op}
-use Rattle.elimination.specs.State.{state_at, no_app, app_at, new_app, no_application, noted, nothing_laid, LaidAt, image_set, app_added}
+use Rattle.elimination.specs.State.{state_at, no_app, app_at, new_app, no_application, noted, LaidAt, image_set, app_added}
 use Rattle.elimination.specs.declared.laid.Application.{Application}
 use Rattle.elimination.specs.declared.laid.Laid.{Laid}
-
--- nothing is at hand where no node is taken
-pub laid_none : (s : List ℕ) → LaidAt s 0 nothing_laid
-laid_none s =
-    record {
-      images_long = length-replicate {A = ℕ} 256 0;
-      applications_long = length-replicate {A = Application} 40 no_application;
-      images_are = refl;
-      count_is = refl;
-      functions_are = refl;
-      predicates_are = refl;
-      nodes_are = refl;
-      app_before = λ i h. absurd (omega arith);
-      app_of = λ i h. absurd (omega arith);
-      app_own = λ i h. absurd (omega arith);
-      app_image = λ i h. absurd (omega arith);
-    }
 
 -- what holds of each application before k, and of the one that is noted at k, holds of each up to k
 noted_more : (P : ℕ → Application → Type 0) (xs : List Application) (k : ℕ) (x : Application) → k < length xs

@@ -46,6 +46,10 @@ nothing_laid =
       nodes = 0;
     }
 
+-- with nothing at hand, whatever stands in the arrays
+abbrev pub cleared : Laid → Laid
+cleared l = record l { count = 0; functions = 0; predicates = 0; nodes = 0 }
+
 -- the number of the next variable: op 0 applies a function, any other a predicate
 abbrev pub next_of : Laid → ℕ → ℕ
 next_of l zero = l.functions

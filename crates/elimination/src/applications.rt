@@ -25,6 +25,8 @@ fn choice_op(op: u8) -> Op
     }
 }
 
+// The contracts below ask for `Taking` and `NewAt`, which tie the problem, a node, what is at hand and the buffer: none of these
+// holds the others, so the facts have no struct to stand in.
 impl Laid {
     // The choices for node k, after its own variable node: the applications are looked at from the latest on.
     #[tactic(auto, using(crate::proofs::Applying::own_fits))]

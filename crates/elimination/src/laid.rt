@@ -3,7 +3,7 @@ ghost use Rattle.std.specs.Prelude.{◌≡◌, ◌≤◌, ◌<◌, cond, true, g
 ghost use Rattle.definitions.specs.Problem.Node.{node};
 ghost use Rattle.definitions.specs.Problem.Check.{nodes_of, node_count};
 ghost use Rattle.theorems.proofs.Accepted.{Accepted};
-ghost use Rattle.elimination.specs.State.{nothing_laid, next_of, counted, ImagesRead};
+ghost use Rattle.elimination.specs.State.{nothing_laid, cleared, next_of, counted, ImagesRead};
 
 use problem::head::Problem;
 use problem::ops::Op;
@@ -15,7 +15,8 @@ pub struct Application {
     pub own: u16,
 }
 
-// It is lent from one node to the next, since to copy it at every node takes longer than most small jobs.
+// What is at hand, which is made once and then lent: to move it out of the function that fills it makes small jobs slower by a
+// twelfth.
 #[derive(Drop)]
 pub struct Laid {
     // the image of each problem node taken
@@ -42,6 +43,16 @@ impl Laid {
             predicates: 0,
             nodes: 0,
         }
+    }
+
+    // No node is taken any more; what stands in the arrays does not matter.
+    pub fn clear(&mut self)
+        ensures { self.new ≡ cleared self.old }
+    {
+        self.count = 0;
+        self.functions = 0;
+        self.predicates = 0;
+        self.nodes = 0;
     }
 
     // The number of the next variable of an op: those of functions and those of predicates are counted apart.

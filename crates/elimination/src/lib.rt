@@ -26,23 +26,24 @@ pub fn eliminate(root: usize, bytes: &[u8], work: &mut [u8]) -> Result<Table, Re
     if work.len() < 21056 {
         return Err(Refusal::ShortWork);
     }
-    let all = lay_table(&problem, work);
+    let mut all = Laid::nothing();
+    lay_table(&problem, work, &mut all);
     Ok(Table {
         nodes: all.nodes,
         root: usize::from(all.images[problem.nodes - 1]),
     })
 }
 
-// The whole table of an accepted problem, and what the later stages need of it.
-pub fn lay_table(problem: &Problem<'_>, work: &mut [u8]) -> Laid
+// The whole table of an accepted problem. What the later stages need of it is left in what is lent, whatever stood there before. That
+// the problem is accepted is asked of a `Problem` here and in three functions more: a type for it would need all its methods again.
+pub fn lay_table(problem: &Problem<'_>, work: &mut [u8], all: &mut Laid)
     requires { Accepted problem.now × (21056 ≤ length work.old) }
-    ensures { AllLaid problem.now work.old result work.new }
+    ensures { AllLaid problem.now work.old all.new work.new }
 {
-    let mut all = Laid::nothing();
+    all.clear();
     for k in 0..problem.nodes {
         all.take_node(problem, k, work);
     }
-    all
 }
 
 impl Laid {

@@ -37,7 +37,8 @@ pub fn ranges(root: usize, bytes: &[u8], work: &mut [u8]) -> Result<Ranges, Refu
     if work.len() < 21056 {
         return Err(Refusal::ShortWork);
     }
-    let all = lay_table(&problem, work);
+    let mut all = Laid::nothing();
+    lay_table(&problem, work, &mut all);
     let spans = measure(FreeTable {
         bytes: work,
         shape: Shape::from(&all),

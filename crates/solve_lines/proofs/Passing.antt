@@ -4,18 +4,17 @@ use Prim.Native.Nat.{ℕ, ◌+◌, ◌≤◌, ◌<◌}
 use native.Mathlib.Omega.{arith}
 use mathlib.Core.Bool.{Bool, true, false}
 use mathlib.Core.List.{List, [], ◌∷◌, ◌++◌}
-use mathlib.Core.Option.{some}
 use lib.ListN.{length, get_or, take, drop, length-drop, get_or-eq_default}
 use lib.Seq.{get_or-drop, drop-drop}
 use Rattle.definitions.specs.Text.Tokens.{Placed, wrong, tokens_of, same_token}
-use Rattle.definitions.specs.Text.Tokens as tokens
 use Rattle.definitions.specs.Solve.{names_in, name_at}
 use Rattle.theorems.proofs.Text.Taken.Kept.Invariant.{DECLARE}
-use Rattle.terms.specs.Lexing.{name_of, lexeme_read, tokens_at, led, LexemeWithin, Lexed}
+use Rattle.terms.specs.Lexing.{lexeme_read, tokens_at, led, LexemeWithin, Lexed}
 use Rattle.terms.specs.Reading.{is_token}
 use Rattle.terms.specs.declared.tokens.Lexeme.{Lexeme}
 use Rattle.terms.specs.declared.tokens.Token.{Token}
 use Rattle.terms.proofs.DeclarationLaws.{same_swap}
+use Rattle.terms.proofs.OtherLexemes.{some_token}
 use Rattle.terms.proofs.Streams.{no_tokens}
 use Rattle.solve_lines.specs.Read.{first_at}
 
@@ -25,16 +24,6 @@ nobody text = record { token = wrong; place = length text }
 no_token_left : (text : List ℕ) → tokens_at text (length text) ≡ []
 unfolding tokens_at
 no_token_left text = no_tokens (length text) (length text) (drop (length text) text) (omega (arith, length-drop (length text) text))
-
--- a lexeme that is not the end is a token
-some_token : (text : List ℕ) (x : Lexeme) → (x ≡ Lexeme.End → ⊥) → (y : tokens.Token) × (lexeme_read text x ≡ some y)
-some_token text Lexeme.End o = absurd (o refl)
-some_token text Lexeme.Opening o = (tokens.opening, refl)
-some_token text Lexeme.Closing o = (tokens.closing, refl)
-some_token text Lexeme.Nought o = (tokens.nought, refl)
-some_token text Lexeme.Wrong o = (wrong, refl)
-some_token text (Lexeme.Symbol n) o = (tokens.symbol (name_of text n), refl)
-some_token text (Lexeme.Word n) o = (tokens.word (name_of text n), refl)
 
 -- a declaration's name, and the names after it
 first_of : (ps : List Placed) (d : Placed) → get_or (take 1 ps ++ names_in ps) 0 d ≡ get_or ps 0 d
@@ -74,7 +63,7 @@ module _ (text : List ℕ) (k at number : ℕ) (s : Passed text k at number) (t 
   passed_end e =
       let p : t.place ≡ length text = subst (LexemeWithin text at t) e l.fits in
       let gone : [] ≡ drop number names =
-      ap names_in (sym (l.tokens_are ∙ ap (led text t.place t.next) (ap (lexeme_read text) e))) ∙ s.left in
+      ap names_in (sym (l.tokens_are ∙ ap (led text t.place t.next) (ap lexeme_read e))) ∙ s.left in
       let few = s.few in (
         ap (λ (xs : List Placed). get_or xs 0 (nobody text)) (ap (tokens_at text) p ∙ no_token_left text)
             ∙ sym (get_or-eq_default names (nobody text) {n = k} (omega (arith, length-drop number names, ap length gone))),
@@ -83,18 +72,18 @@ module _ (text : List ℕ) (k at number : ℕ) (s : Passed text k at number) (t 
 
   module _ (o : t.lexeme ≡ Lexeme.End → ⊥) where
     abbrev here : Placed
-    here = record { token = (some_token text t.lexeme o).0; place = t.place }
+    here = record { token = (some_token t.lexeme o).0; place = t.place }
 
-    left_by : {b : Bool} → is_token DECLARE (lexeme_read text t.lexeme) ≡ b
+    left_by : {b : Bool} → is_token DECLARE (lexeme_read t.lexeme) ≡ b
         → elim b [ true ↦ take 1 ps ++ names_in ps | false ↦ names_in ps ] ≡ drop number names
     left_by {b} e =
-        let there = some_token text t.lexeme o in
+        let there = some_token t.lexeme o in
         let same : same_token there.0 DECLARE ≡ b = same_swap there.0 DECLARE ∙ ap (is_token DECLARE) (sym there.1) ∙ e in
         sym (names_by here ps same)
         ∙ ap names_in (sym (l.tokens_are ∙ ap (led text t.place t.next) there.1))
         ∙ s.left
 
-    module _ (e : is_token DECLARE (lexeme_read text t.lexeme) ≡ true) where
+    module _ (e : is_token DECLARE (lexeme_read t.lexeme) ≡ true) where
       pub passed_here : number ≡ k → first_at text t.next ≡ name_at text k
       unfolding name_at
       passed_here h =

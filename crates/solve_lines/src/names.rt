@@ -21,7 +21,7 @@ fn first_name(text: &[u8], at: usize) -> Written<'_>
 {
     let token = next(text, at);
     Written {
-        bytes: name_of(token.lexeme).of(text),
+        bytes: name_of(token.lexeme),
         barred: byte_at(text, token.place) == b'|',
     }
 }
@@ -39,7 +39,7 @@ fn behind_declaring(text: &[u8], k: usize) -> usize
             return token.place;
         }
         at = token.next;
-        if !is_declaring(text, token.lexeme) {
+        if !is_declaring(token.lexeme) {
             continue;
         }
         if number == k {

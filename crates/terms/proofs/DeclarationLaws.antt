@@ -31,14 +31,14 @@ module _ (text : List ℕ) (at : ℕ) (t : Token) (l : Lexed text at t) where
   abbrev pub by : Option tokens.Token → List tokens.Token
   by o = plain_tokens (led text t.place t.next o)
 
-  pub tokens_by_lem : {o : Option tokens.Token} → lexeme_read text t.lexeme ≡ o → plain_at text at ≡ by o
+  pub tokens_by_lem : {o : Option tokens.Token} → lexeme_read t.lexeme ≡ o → plain_at text at ≡ by o
   tokens_by_lem e = ap plain_tokens l.tokens_are ∙ ap by e
 
   pub skip_end : t.lexeme ≡ Lexeme.End → SkipsTo text at t.place
   skip_end e =
       let p : t.place ≡ length text = subst (LexemeWithin text at t) e l.fits in
       record {
-        behind = ap (plain_at text) p ∙ end_empty text ∙ sym (ap (drop 1) (tokens_by_lem (ap (lexeme_read text) e)));
+        behind = ap (plain_at text) p ∙ end_empty text ∙ sym (ap (drop 1) (tokens_by_lem (ap lexeme_read e)));
         inside = omega arith;
       }
 
@@ -66,7 +66,7 @@ module _ (text : List ℕ) (at : ℕ) (sn : List ℕ) where
 
   pub result_other : (w : WrongToken) → Exactly text at (symbol sn) (Err w) → result_in sn (plain_at text at) ≡ formula
   unfolding result_by
-  result_other place (t, l, e, p) = ap (result_in sn) (tokens_by_lem text at t l refl) ∙ go (lexeme_read text t.lexeme) e
+  result_other place (t, l, e, p) = ap (result_in sn) (tokens_by_lem text at t l refl) ∙ go (lexeme_read t.lexeme) e
     where
       go : (o : Option tokens.Token) → is_token (symbol sn) o ≡ false → result_in sn (by text at t l o) ≡ formula
       go none q = refl

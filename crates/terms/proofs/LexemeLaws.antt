@@ -1,4 +1,4 @@
--- What a token that is read says: where it ends, and where its name lies. Assumes nothing.
+-- What a token that is read says: where it ends, and which it is. Assumes nothing.
 use mathlib.Core.Path.{◌≡◌, sym, ap, subst}
 use Prim.Native.Nat.{ℕ, ◌≤◌, ◌<◌}
 use mathlib.Core.Bool.{true, false≢true}
@@ -10,15 +10,14 @@ use Rattle.definitions.specs.Text.Tokens.{opening, closing, nought, wrong, symbo
 use Rattle.definitions.specs.Text.Tokens as tokens
 use Rattle.theorems.proofs.Laws.Tests.{none≢some}
 use Rattle.theorems.proofs.Text.Taken.Runs.{same_token_lem}
-use Rattle.terms.specs.Lexing.{lexeme_read, LexemeWithin, LexemeFits, Lexed, NameWithin}
+use Rattle.terms.specs.Lexing.{lexeme_read, LexemeWithin}
 use Rattle.terms.specs.Reading.{is_token, Exactly}
-use Rattle.terms.specs.declared.tokens.Name.{Name}
 use Rattle.terms.specs.declared.tokens.Lexeme.{Lexeme}
 use Rattle.terms.specs.declared.tokens.Token.{Token}
 use Rattle.terms.specs.declared.exact.WrongToken.{WrongToken}
 
 -- the end of the text is at its length
-pub end_place : (text : List ℕ) (at : ℕ) (t : Token) (l : Lexeme) → LexemeWithin text at t l → lexeme_read text l ≡ none → t.place ≡ length text
+pub end_place : (text : List ℕ) (at : ℕ) (t : Token) (l : Lexeme) → LexemeWithin text at t l → lexeme_read l ≡ none → t.place ≡ length text
 end_place text at t Lexeme.End w e = w
 end_place text at t Lexeme.Opening w e = absurd (none≢some (sym e))
 end_place text at t Lexeme.Closing w e = absurd (none≢some (sym e))
@@ -28,36 +27,23 @@ end_place text at t (Lexeme.Symbol n) w e = absurd (none≢some (sym e))
 end_place text at t (Lexeme.Word n) w e = absurd (none≢some (sym e))
 
 -- a token that is there is passed
-pub goes_on : (text : List ℕ) (at : ℕ) (t : Token) (l : Lexeme) {x : tokens.Token} → LexemeWithin text at t l → lexeme_read text l ≡ some x → at < t.next
+pub goes_on : (text : List ℕ) (at : ℕ) (t : Token) (l : Lexeme) {x : tokens.Token} → LexemeWithin text at t l → lexeme_read l ≡ some x → at < t.next
 goes_on text at t Lexeme.End w e = absurd (none≢some e)
 goes_on text at t Lexeme.Opening w e = w
 goes_on text at t Lexeme.Closing w e = w
 goes_on text at t Lexeme.Nought w e = w
 goes_on text at t Lexeme.Wrong w e = w
-goes_on text at t (Lexeme.Symbol n) w e = w.0
-goes_on text at t (Lexeme.Word n) w e = w.0
+goes_on text at t (Lexeme.Symbol n) w e = w
+goes_on text at t (Lexeme.Word n) w e = w
 
 -- a token that is the one due is that very token
 pub token_is : (x : tokens.Token) (o : Option tokens.Token) → is_token x o ≡ true → o ≡ some x
 token_is x none e = absurd (false≢true e)
 token_is x (some y) e = ap some (sym (same_token_lem x y e))
 
-pub lexeme_fits : (text : List ℕ) (at : ℕ) (t : Token) (l : Lexeme) → LexemeWithin text at t l → LexemeFits text l
-lexeme_fits text at t Lexeme.End w = tt
-lexeme_fits text at t Lexeme.Opening w = tt
-lexeme_fits text at t Lexeme.Closing w = tt
-lexeme_fits text at t Lexeme.Nought w = tt
-lexeme_fits text at t Lexeme.Wrong w = tt
-lexeme_fits text at t (Lexeme.Symbol n) w = w.1
-lexeme_fits text at t (Lexeme.Word n) w = w.1
-
 -- a token that had to come is passed
 pub exactly_later : (text : List ℕ) {at next : ℕ} (x : tokens.Token) → Exactly text at x (Ok next) → at ≤ next
 exactly_later text {at} x (t, l, e, n) = subst (λ (k : ℕ). at ≤ k) n l.later
-
--- a symbol's name lies within the text
-pub symbol_within : {text : List ℕ} {at : ℕ} {t : Token} {n : Name} → Lexed text at t → t.lexeme ≡ Lexeme.Symbol n → NameWithin text n
-symbol_within {text} {at} {t} l e = (subst (LexemeWithin text at t) e l.fits).1
 
 -- what a refusal that is passed on says
 pub passed_on : {T : Type 0} (P : Result T WrongToken → Type 0) (r : Result T WrongToken) (w : WrongToken) → IsErrAnd r (λ e. e ≡ w) → P (Err w) → P r

@@ -24,15 +24,15 @@ module _ (text : List ℕ) (at : ℕ) (r : Reached text (goes start naming) at) 
   unfolding step
   sort_by name e = ap (λ (b : Bool). unless_not b (sort_read name)) e
 
-  pub sort_named : (name : List ℕ) → lexeme_read text t.lexeme ≡ some (symbol name) → new_sort name ≡ true → Reached text (sort_read name) t.next
+  pub sort_named : (name : List ℕ) → lexeme_read t.lexeme ≡ some (symbol name) → new_sort name ≡ true → Reached text (sort_read name) t.next
   sort_named name e f = moves text (goes start naming) at r t l (symbol name) (sort_read name) e (sort_by name f) (omega arith)
 
-  pub sort_taken : (name : List ℕ) → lexeme_read text t.lexeme ≡ some (symbol name) → new_sort name ≡ false → WrongAt text t.place
+  pub sort_taken : (name : List ℕ) → lexeme_read t.lexeme ≡ some (symbol name) → new_sort name ≡ false → WrongAt text t.place
   sort_taken name e f = stuck text (goes start naming) at r t l (symbol name) e (sort_by name f)
 
-  pub no_sort_lem : NoSymbol (lexeme_read text t.lexeme) → WrongAt text t.place
+  pub no_sort_lem : NoSymbol (lexeme_read t.lexeme) → WrongAt text t.place
   unfolding step
-  no_sort_lem f = wrong_here text (goes start naming) at r t l (go (lexeme_read text t.lexeme) f) refl
+  no_sort_lem f = wrong_here text (goes start naming) at r t l (go (lexeme_read t.lexeme) f) refl
     where
       go : (o : Option tokens.Token) → NoSymbol o → stepped (goes start naming) o ≡ none
       go none q = refl
@@ -47,16 +47,16 @@ module _ (text sn : List ℕ) (cs : List Command) (at : ℕ) (r : Reached text (
   unfolding step
   name_by name e = ap (λ (b : Bool). unless_not b (name_read sn cs name)) e
 
-  pub function_named : (name : List ℕ) → lexeme_read text t.lexeme ≡ some (symbol name) → new_function (symbols_in cs) name ≡ true
+  pub function_named : (name : List ℕ) → lexeme_read t.lexeme ≡ some (symbol name) → new_function (symbols_in cs) name ≡ true
       → Reached text (name_read sn cs name) t.next
   function_named name e f = moves text (in_declaring sn cs) at r t l (symbol name) (name_read sn cs name) e (name_by name f) (omega arith)
 
-  pub function_taken : (name : List ℕ) → lexeme_read text t.lexeme ≡ some (symbol name) → new_function (symbols_in cs) name ≡ false → WrongAt text t.place
+  pub function_taken : (name : List ℕ) → lexeme_read t.lexeme ≡ some (symbol name) → new_function (symbols_in cs) name ≡ false → WrongAt text t.place
   function_taken name e f = stuck text (in_declaring sn cs) at r t l (symbol name) e (name_by name f)
 
-  pub no_function : NoSymbol (lexeme_read text t.lexeme) → WrongAt text t.place
+  pub no_function : NoSymbol (lexeme_read t.lexeme) → WrongAt text t.place
   unfolding step
-  no_function f = wrong_here text (in_declaring sn cs) at r t l (go (lexeme_read text t.lexeme) f) refl
+  no_function f = wrong_here text (in_declaring sn cs) at r t l (go (lexeme_read t.lexeme) f) refl
     where
       go : (o : Option tokens.Token) → NoSymbol o → stepped (in_declaring sn cs) o ≡ none
       go none q = refl

@@ -41,18 +41,18 @@ module _ (text sn : List ℕ) (cs : List Command) (name : List ℕ) (k at : ℕ)
         ]) e
         ∙ ap (λ (z : Bool). elim b as (λ _. Option State) [ true ↦ some (in_giving sn cs name k) | false ↦ unless_not z (in_taking sn cs name (suc k)) ]) f
 
-    pub arity_closes : lexeme_read text t.lexeme ≡ some closing → Reached text (in_giving sn cs name k) t.next
+    pub arity_closes : lexeme_read t.lexeme ≡ some closing → Reached text (in_giving sn cs name k) t.next
     arity_closes e = moves text (in_taking sn cs name k) at r t l closing (in_giving sn cs name k) e (taken_by closing refl refl) (omega arith)
 
-    pub sort_taken : lexeme_read text t.lexeme ≡ some (symbol sn) → k < 3 → Reached text (in_taking sn cs name (k + 1)) t.next
+    pub sort_taken : lexeme_read t.lexeme ≡ some (symbol sn) → k < 3 → Reached text (in_taking sn cs name (k + 1)) t.next
     sort_taken e h =
         subst (λ (n : ℕ). Reached text (in_taking sn cs name n) t.next) (sym (add-one k))
         (moves text (in_taking sn cs name k) at r t l (symbol sn) (in_taking sn cs name (suc k)) e
         (taken_by (symbol sn) refl (ap (λ (z : Bool). z && same_token (symbol sn) (symbol sn)) (lt-ltb k 3 h) ∙ token_same (symbol sn))) (omega arith))
 
-    pub arity_wrong : is_token closing (lexeme_read text t.lexeme) ≡ false → (is_token (symbol sn) (lexeme_read text t.lexeme) ≡ false) ⊎ (3 ≤ k)
+    pub arity_wrong : is_token closing (lexeme_read t.lexeme) ≡ false → (is_token (symbol sn) (lexeme_read t.lexeme) ≡ false) ⊎ (3 ≤ k)
         → WrongAt text t.place
-    arity_wrong e f = wrong_here text (in_taking sn cs name k) at r t l (go (lexeme_read text t.lexeme) e f) refl
+    arity_wrong e f = wrong_here text (in_taking sn cs name k) at r t l (go (lexeme_read t.lexeme) e f) refl
       where
         none_taken : (x : tokens.Token) → (same_token (symbol sn) x ≡ false) ⊎ (3 ≤ k) → (ltb k 3 && same_token x (symbol sn)) ≡ false
         none_taken x (inl p) = ap (λ (z : Bool). ltb k 3 && z) (same_swapped x (symbol sn) ∙ p) ∙ never (ltb k 3)
@@ -77,32 +77,32 @@ module _ (text sn : List ℕ) (cs : List Command) (name : List ℕ) (k at : ℕ)
         ap (λ (z : Bool). elim z as (λ _. Option State) [ true ↦ some (given term) | false ↦ unless_not (same_token x (symbol BOOL)) (given formula) ]) e
         ∙ ap (λ (z : Bool). elim b as (λ _. Option State) [ true ↦ some (given term) | false ↦ unless_not z (given formula) ]) f
 
-    pub sort_given : lexeme_read text t.lexeme ≡ some (symbol sn) → Reached text (given term) t.next
+    pub sort_given : lexeme_read t.lexeme ≡ some (symbol sn) → Reached text (given term) t.next
     sort_given e = moves text (in_giving sn cs name k) at r t l (symbol sn) (given term) e (given_by (symbol sn) (token_same (symbol sn)) refl) (omega arith)
 
-    pub bool_given : lexeme_read text t.lexeme ≡ some (symbol BOOL) → is_token (symbol sn) (lexeme_read text t.lexeme) ≡ false
+    pub bool_given : lexeme_read t.lexeme ≡ some (symbol BOOL) → is_token (symbol sn) (lexeme_read t.lexeme) ≡ false
         → Reached text (given formula) t.next
     bool_given e f =
         moves text (in_giving sn cs name k) at r t l (symbol BOOL) (given formula) e
         (given_by (symbol BOOL) (same_swapped (symbol BOOL) (symbol sn) ∙ sym (ap (is_token (symbol sn)) e) ∙ f) (token_same (symbol BOOL))) (omega arith)
 
-    pub result_wrong : is_token (symbol sn) (lexeme_read text t.lexeme) ≡ false → is_token (symbol BOOL) (lexeme_read text t.lexeme) ≡ false
+    pub result_wrong : is_token (symbol sn) (lexeme_read t.lexeme) ≡ false → is_token (symbol BOOL) (lexeme_read t.lexeme) ≡ false
         → WrongAt text t.place
-    result_wrong e f = wrong_here text (in_giving sn cs name k) at r t l (go (lexeme_read text t.lexeme) e f) refl
+    result_wrong e f = wrong_here text (in_giving sn cs name k) at r t l (go (lexeme_read t.lexeme) e f) refl
       where
         go : (o : Option tokens.Token) → is_token (symbol sn) o ≡ false → is_token (symbol BOOL) o ≡ false → stepped (in_giving sn cs name k) o ≡ none
         go none p q = refl
         go (some x) p q = given_by x (same_swapped x (symbol sn) ∙ p) (same_swapped x (symbol BOOL) ∙ q)
 
 -- neither a closing bracket nor the sort; neither the sort nor Bool
-module _ (text : List ℕ) (l : Lexeme) (sn : List ℕ) (p : Part) (is : PartIs text l sn p) where
-  pub no_argument : (p ≡ Part.Bool) ⊎ (p ≡ Part.Other) → (is_token closing (lexeme_read text l) ≡ false) × (is_token (symbol sn) (lexeme_read text l) ≡ false)
-  no_argument (inl e) = let b = subst (PartIs text l sn) e is in (ap (is_token closing) b.0, b.1)
-  no_argument (inr e) = let b = subst (PartIs text l sn) e is in (b.0, b.1)
+module _ (l : Lexeme) (sn : List ℕ) (p : Part) (is : PartIs l sn p) where
+  pub no_argument : (p ≡ Part.Bool) ⊎ (p ≡ Part.Other) → (is_token closing (lexeme_read l) ≡ false) × (is_token (symbol sn) (lexeme_read l) ≡ false)
+  no_argument (inl e) = let b = subst (PartIs l sn) e is in (ap (is_token closing) b.0, b.1)
+  no_argument (inr e) = let b = subst (PartIs l sn) e is in (b.0, b.1)
 
-  pub no_result : (p ≡ Part.Closing) ⊎ (p ≡ Part.Other) → (is_token (symbol sn) (lexeme_read text l) ≡ false) × (is_token (symbol BOOL) (lexeme_read text l) ≡ false)
-  no_result (inl e) = let b = subst (PartIs text l sn) e is in (ap (is_token (symbol sn)) b, ap (is_token (symbol BOOL)) b)
-  no_result (inr e) = let b = subst (PartIs text l sn) e is in (b.1, b.2)
+  pub no_result : (p ≡ Part.Closing) ⊎ (p ≡ Part.Other) → (is_token (symbol sn) (lexeme_read l) ≡ false) × (is_token (symbol BOOL) (lexeme_read l) ≡ false)
+  no_result (inl e) = let b = subst (PartIs l sn) e is in (ap (is_token (symbol sn)) b, ap (is_token (symbol BOOL)) b)
+  no_result (inr e) = let b = subst (PartIs l sn) e is in (b.1, b.2)
 
 -- after three arguments only the closing bracket will do
 module _ (text sn : List ℕ) (cs : List Command) (name : List ℕ) (k at : ℕ) (three : k ≡ 3) (r : Reached text (in_taking sn cs name k) at) where

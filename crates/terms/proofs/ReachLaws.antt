@@ -44,7 +44,7 @@ module _ (text : List ℕ) (st : State) (at : ℕ) (r : Reached text st at) (t :
   abbrev read_by : Option tokens.Token → Answer Script
   read_by o = read_from st (length text) (led text t.place t.next o)
 
-  answer_by : {o : Option tokens.Token} → lexeme_read text t.lexeme ≡ o → script_read text ≡ read_by o
+  answer_by : {o : Option tokens.Token} → lexeme_read t.lexeme ≡ o → script_read text ≡ read_by o
   answer_by e = r.answer ∙ ap (read_from st (length text)) l.tokens_are ∙ ap read_by e
 
   abbrev read_on : Option State → Answer Script
@@ -54,10 +54,10 @@ module _ (text : List ℕ) (st : State) (at : ℕ) (r : Reached text st at) (t :
         | some st' ↦ elim (ltb 64 (level_of st'.stage)) [ true ↦ refused (refuse 15 t.place) | false ↦ read_from st' (length text) (tokens_at text t.next) ]
       ]
 
-  on_by : {o : Option State} (x : tokens.Token) → lexeme_read text t.lexeme ≡ some x → step st x ≡ o → script_read text ≡ read_on o
+  on_by : {o : Option State} (x : tokens.Token) → lexeme_read t.lexeme ≡ some x → step st x ≡ o → script_read text ≡ read_on o
   on_by x e s = answer_by e ∙ ap read_on s
 
-  pub moves : (x : tokens.Token) (st' : State) → lexeme_read text t.lexeme ≡ some x → step st x ≡ some st' → level_of st'.stage ≤ 64
+  pub moves : (x : tokens.Token) (st' : State) → lexeme_read t.lexeme ≡ some x → step st x ≡ some st' → level_of st'.stage ≤ 64
       → Reached text st' t.next
   moves x st' e s h =
       let p : Placed = record { token = x; place = t.place } in
@@ -78,17 +78,17 @@ module _ (text : List ℕ) (st : State) (at : ℕ) (r : Reached text st at) (t :
       }
 
   -- 14
-  pub stuck : (x : tokens.Token) → lexeme_read text t.lexeme ≡ some x → step st x ≡ none → WrongAt text t.place
+  pub stuck : (x : tokens.Token) → lexeme_read t.lexeme ≡ some x → step st x ≡ none → WrongAt text t.place
   stuck x e s = on_by x e s
 
-  pub ends : t.place ≡ length text → lexeme_read text t.lexeme ≡ none → is_finished st.stage ≡ false → WrongAt text t.place
+  pub ends : t.place ≡ length text → lexeme_read t.lexeme ≡ none → is_finished st.stage ≡ false → WrongAt text t.place
   ends p e f =
       answer_by e
       ∙ ap (λ (b : Bool). elim b as (λ _. Answer Script) [ true ↦ given (script_of st) | false ↦ refused (refuse 14 (length text)) ]) f
       ∙ ap (λ (k : ℕ). refused (refuse 14 k)) (sym p)
 
   -- 15
-  pub deep : (x : tokens.Token) (st' : State) → lexeme_read text t.lexeme ≡ some x → step st x ≡ some st' → 64 < level_of st'.stage
+  pub deep : (x : tokens.Token) (st' : State) → lexeme_read t.lexeme ≡ some x → step st x ≡ some st' → 64 < level_of st'.stage
       → script_read text ≡ refused (refuse 15 t.place)
   deep x st' e s h =
       on_by x e s
@@ -96,16 +96,16 @@ module _ (text : List ℕ) (st : State) (at : ℕ) (r : Reached text st at) (t :
       (lt-ltb 64 (level_of st'.stage) h)
 
   -- the text is read out
-  pub finishes : lexeme_read text t.lexeme ≡ none → is_finished st.stage ≡ true → script_read text ≡ given (script_of st)
+  pub finishes : lexeme_read t.lexeme ≡ none → is_finished st.stage ≡ true → script_read text ≡ given (script_of st)
   finishes e f =
       answer_by e ∙ ap (λ (b : Bool). elim b as (λ _. Answer Script) [ true ↦ given (script_of st) | false ↦ refused (refuse 14 (length text)) ]) f
 
 -- whatever stands there is wrong: the end of the text, or a token that is not taken
 pub wrong_here : (text : List ℕ) (st : State) (at : ℕ) → Reached text st at → (t : Token) → Lexed text at t
-    → stepped st (lexeme_read text t.lexeme) ≡ none → is_finished st.stage ≡ false → WrongAt text t.place
-wrong_here text st at r t l s f = go (lexeme_read text t.lexeme) refl s
+    → stepped st (lexeme_read t.lexeme) ≡ none → is_finished st.stage ≡ false → WrongAt text t.place
+wrong_here text st at r t l s f = go (lexeme_read t.lexeme) refl s
   where
-    go : (o : Option tokens.Token) → lexeme_read text t.lexeme ≡ o → stepped st o ≡ none → WrongAt text t.place
+    go : (o : Option tokens.Token) → lexeme_read t.lexeme ≡ o → stepped st o ≡ none → WrongAt text t.place
     go none e q = ends text st at r t l (end_place text at t t.lexeme l.fits e) e f
     go (some x) e q = stuck text st at r t l x e q
 
@@ -121,7 +121,7 @@ module _ (text : List ℕ) (st : State) (at : ℕ) (x : tokens.Token) (then : St
 
   pub exact_wrong : (w : WrongToken) → Exactly text at x (Err w) → WrongAt text w.0
   exact_wrong w (t, l, e, p) =
-      subst (WrongAt text) p (wrong_here text (goes st (exact x then)) at r t l (go (lexeme_read text t.lexeme) e) refl)
+      subst (WrongAt text) p (wrong_here text (goes st (exact x then)) at r t l (go (lexeme_read t.lexeme) e) refl)
     where
       go : (o : Option tokens.Token) → is_token x o ≡ false → stepped (goes st (exact x then)) o ≡ none
       go none q = refl

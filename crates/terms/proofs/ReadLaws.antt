@@ -38,11 +38,11 @@ module _ (text : List ℕ) (shelf : List Shelved) (d : Declared) (t : Token) (s 
   -- a term with no bracket
   pub reads_bare : {r : Result Term Refusal} {u : code.Option (List Node)} → (t.lexeme ≡ Lexeme.Opening → ⊥) → ReadsBare text shelf d t s u₀ r u → ReadsTerm text shelf d t s levels u₀ r u
   reads_bare h bare =
-      record { sound = bare.sound; says = λ sn cs w row outer at wanted. bare.says levels (not_opening text t.lexeme h) sn cs w row outer at wanted }
+      record { sound = bare.sound; says = λ sn cs w row outer at wanted. bare.says levels (not_opening t.lexeme h) sn cs w row outer at wanted }
 
   module _ (e : t.lexeme ≡ Lexeme.Opening) where
-    opens : lexeme_read text t.lexeme ≡ some opening
-    opens = ap (lexeme_read text) e
+    opens : lexeme_read t.lexeme ≡ some opening
+    opens = ap lexeme_read e
 
     pub reads_deep : (u : code.Option (List Node)) → levels ≡ 0 → ReadsTerm text shelf d t s levels u₀ (Err (Refusal.TooDeep t.place)) u
     reads_deep u z =
@@ -92,8 +92,8 @@ module _ (text : List ℕ) (shelf : List Shelved) (d : Declared) (t : Token) (s 
       abbrev within : InTerm text sn cs shelf d w before outer s levels head u₀ u row so.at
       within = so.says sn cs w before outer from wanted
 
-      next_is : NextIs text following (left_after (length (trees_of within.inside.args)) (wanted_by (symbols_in cs) (head_read head))) r
-      next_is = follows.says text (symbols_in cs) within.begun.arity_is (length (trees_of within.inside.args)) (e ∙ within.inside.counted)
+      next_is : NextIs following (left_after (length (trees_of within.inside.args)) (wanted_by (symbols_in cs) (head_read head))) r
+      next_is = follows.says (symbols_in cs) within.begun.arity_is (length (trees_of within.inside.args)) (e ∙ within.inside.counted)
 
     -- a token that will not do
     pub reads_wrong : {refusal : Refusal} (u' : code.Option (List Node)) → Follows head seen following (Err refusal) → ReadsTerm text shelf d t s levels u₀ (Err refusal) u'
@@ -152,18 +152,18 @@ module _ (text : List ℕ) (shelf : List Shelved) (d : Declared) (t : Token) (s 
             }
 
         pub less_left : {next : Token} → Lexed text argument.at next → left_from text next < left_from text following
-        less_left {next} lexed = by (lexeme_read text next.lexeme) refl
+        less_left {next} lexed = by (lexeme_read next.lexeme) refl
           where
             x : tokens.Token
-            x = (follows.sound text).0
+            x = follows.sound.0
 
-            there : lexeme_read text following.lexeme ≡ some x
-            there = (follows.sound text).1
+            there : lexeme_read following.lexeme ≡ some x
+            there = follows.sound.1
 
             now : left_from text following ≡ suc (length text - following.next)
             now = ap (λ (o : Option tokens.Token). elim o as (λ _. ℕ) [ none ↦ 0 | some x ↦ suc (length text - following.next) ]) there
 
-            by : (o : Option tokens.Token) → lexeme_read text next.lexeme ≡ o → left_from text next < left_from text following
+            by : (o : Option tokens.Token) → lexeme_read next.lexeme ≡ o → left_from text next < left_from text following
             by none e =
                 let l : left_from text next ≡ 0 = ap (λ (o : Option tokens.Token). elim o as (λ _. ℕ) [ none ↦ 0 | some x ↦ suc (length text - next.next) ]) e in
                 omega (arith, now)

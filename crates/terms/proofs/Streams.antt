@@ -129,5 +129,5 @@ module _ (text : List ℕ) (at place : ℕ) (h : at ≤ length text) (k : BlankT
       further Lexeme.Closing f = let o = onward in omega arith
       further Lexeme.Nought f = let o = onward in omega arith
       further Lexeme.Wrong f = let o = onward in omega arith
-      further (Lexeme.Symbol n) f = let o = onward in (omega (arith, f.0), f.1)
-      further (Lexeme.Word n) f = let o = onward in (omega (arith, f.0), f.1)
+      further (Lexeme.Symbol n) f = let o = onward in omega arith
+      further (Lexeme.Word n) f = let o = onward in omega arith

@@ -23,7 +23,7 @@ use Rattle.theorems.proofs.Text.Taken.Kept.Invariant.{base, Ready}
 use Rattle.theorems.proofs.Text.Taken.Kept.Sound.{keep_run, start_inv}
 use Rattle.std.specs.Prelude.{Some, None, is_some}
 use Rattle.std.specs.Prelude as code
-use Rattle.terms.specs.Lexing.{NameWithin, name_of, tokens_at}
+use Rattle.terms.specs.Lexing.{tokens_at}
 use Rattle.terms.specs.Reading.{Reached}
 use Rattle.problem.specs.Stages.{found_of}
 use Rattle.terms.specs.Named.{core_of, resolve}
@@ -115,22 +115,10 @@ module _ (text sn : List ℕ) (count : ℕ) (name : List ℕ) (at number : ℕ) 
 
 -- the places of a shelf that are taken
 abbrev nothing_on : Shelved
-nothing_on = record { name = record { from = 0; to = 0 }; byte = 0 }
+nothing_on = record { name = record { ref_ptr = (0, 0); now = [] }; byte = 0 }
 
-taken_name : (text : List ℕ) (shelf : List Shelved) (held i : ℕ) → i < held → name_on text (take held shelf) i ≡ name_on text shelf i
-taken_name text shelf held i p = ap (λ (x : Shelved). name_of text x.name) (get_or-take held shelf i nothing_on p)
-
-pub shelf_taken : (text : List ℕ) (shelf : List Shelved) (held count : ℕ) → held ≤ count → ShelfSound text shelf count
-    → ShelfSound text (take held shelf) (length (take held shelf))
-shelf_taken text shelf held count h s =
-    record {
-      inside = λ i o.
-          let p : i < held = omega (arith, o.1, length-take held shelf) in
-          subst (λ (x : Shelved). NameWithin text x.name) (sym (get_or-take held shelf i nothing_on p)) (s.inside i (omega arith, omega (arith, o.1, length-take held shelf)));
-      small = λ i o.
-          let p : i < held = omega (arith, o.1, length-take held shelf) in
-          subst (λ (x : Shelved). x.byte < 20) (sym (get_or-take held shelf i nothing_on p)) (s.small i (omega arith, omega (arith, o.1, length-take held shelf)));
-    }
+taken_name : (shelf : List Shelved) (held i : ℕ) → i < held → name_on (take held shelf) i ≡ name_on shelf i
+taken_name shelf held i p = ap (λ (x : Shelved). x.name.now) (get_or-take held shelf i nothing_on p)
 
 -- right commands declare symbols of at most three arguments
 right_small : (sig : List Symbol) (cs : List Command) → commands_right sig cs ≡ true → Few (symbols_in cs)
@@ -177,10 +165,10 @@ module _ (text : List ℕ) (shelf : List Shelved) (d : Declared) (sn : List ℕ)
   abbrev sig : List Symbol
   sig = symbols_in cs
 
-  text_known : (r : code.Option Known) → KnownIn (take d.count (declared_in (name_of text d.sort) (plain_at text 0))) name r → KnownIs sig name r
+  text_known : (r : code.Option Known) → KnownIn (take d.count (declared_in d.sort.now (plain_at text 0))) name r → KnownIs sig name r
   text_known r k = small r (subst (λ (ys : List Symbol). KnownIn ys name r) are k)
     where
-      are : take d.count (declared_in (name_of text d.sort) (plain_at text 0)) ≡ sig
+      are : take d.count (declared_in d.sort.now (plain_at text 0)) ≡ sig
       are =
           ap (λ (n : List ℕ). take d.count (declared_in n (plain_at text 0))) (sym s.sort_is_lem)
           ∙ declared_first text sn cs d.command s.reached d.count (sym s.shelved.counted)
@@ -193,11 +181,11 @@ module _ (text : List ℕ) (shelf : List Shelved) (d : Declared) (sn : List ℕ)
     on : (i : ℕ) → i < held → OnShelf shelf d.count i
     on i p = (omega arith, omega arith)
 
-    compared : (i : ℕ) → i < held → {b : Bool} → same_bytes name (name_on text (take held shelf) i) ≡ b → other name (symbol_at sig i) ≡ not b
+    compared : (i : ℕ) → i < held → {b : Bool} → same_bytes name (name_on (take held shelf) i) ≡ b → other name (symbol_at sig i) ≡ not b
     compared i p e =
-        ap (λ (n : List ℕ). not (same_bytes name n)) (sym (taken_name text shelf held i p ∙ s.shelved.named i (on i p))) ∙ ap not e
+        ap (λ (n : List ℕ). not (same_bytes name n)) (sym (taken_name shelf held i p ∙ s.shelved.named i (on i p))) ∙ ap not e
 
-    shelf_known : (i : ℕ) → FoundOn text (take held shelf) name (Some i) → KnownIs sig name (Some (record { number = i; byte = byte_on shelf i }))
+    shelf_known : (i : ℕ) → FoundOn (take held shelf) name (Some i) → KnownIs sig name (Some (record { number = i; byte = byte_on shelf i }))
     shelf_known i f =
         let p : i < held = omega (arith, f.0, length-take held shelf) in (
           (failing_first (other name) sig no_symbol i).1
@@ -209,7 +197,7 @@ module _ (text : List ℕ) (shelf : List Shelved) (d : Declared) (sn : List ℕ)
           s.shelved.typed i (on i p),
         )
 
-    shelf_none : d.count ≤ held → FoundOn text (take held shelf) name None → resolve sig name ≡ none
+    shelf_none : d.count ≤ held → FoundOn (take held shelf) name None → resolve sig name ≡ none
     shelf_none p f = go (resolve sig name) refl
       where
         go : (o : Option ℕ) → resolve sig name ≡ o → o ≡ none
@@ -222,20 +210,20 @@ module _ (text : List ℕ) (shelf : List Shelved) (d : Declared) (sn : List ℕ)
 
 -- whatever is read
 module _ (text : List ℕ) (shelf : List Shelved) (d : Declared) (name : List ℕ) where
-  pub finds_in_text : (r : code.Option Known) → KnownIn (take d.count (declared_in (name_of text d.sort) (plain_at text 0))) name r
+  pub finds_in_text : (r : code.Option Known) → KnownIn (take d.count (declared_in d.sort.now (plain_at text 0))) name r
       → Finds text shelf d name r
   finds_in_text r k = record { known = λ sn cs s. text_known text shelf d sn cs s name r k; small = known_small _ name r k }
 
   module _ (held : ℕ) (h : held ≤ d.count) (l : held ≤ length shelf) where
-    pub finds_on_shelf : (i : ℕ) → ShelfSound text shelf d.count → FoundOn text (take held shelf) name (Some i)
+    pub finds_on_shelf : (i : ℕ) → ShelfSound shelf d.count → FoundOn (take held shelf) name (Some i)
         → Finds text shelf d name (Some (record { number = i; byte = byte_on shelf i }))
     finds_on_shelf i sound f =
         record {
           known = λ sn cs s. shelf_known text shelf d sn cs s name held h l i f;
-          small = let p : i < held = omega (arith, f.0, length-take held shelf) in sound.small i (omega arith, omega arith);
+          small = let p : i < held = omega (arith, f.0, length-take held shelf) in sound i (omega arith, omega arith);
         }
 
-    pub finds_nothing : d.count ≤ held → FoundOn text (take held shelf) name None → Finds text shelf d name None
+    pub finds_nothing : d.count ≤ held → FoundOn (take held shelf) name None → Finds text shelf d name None
     finds_nothing p f = record { known = λ sn cs s. shelf_none text shelf d sn cs s name held h l p f; small = tt }
 
 -- a name is free by three searches

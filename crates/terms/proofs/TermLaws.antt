@@ -86,11 +86,11 @@ symbol_small sig code.Head.False e few = tt
 
 -- no symbol, and no bracket: no term begins so
 pub nothing_bare : (text sn : List ℕ) (cs : List Command) (w : Wanted) (row : Terms) (outer : List Opened) (at : ℕ) → Reached text (in_list sn cs w row outer) at
-    → (t : Token) → Lexed text at t → (s : Sort) → next w ≡ some s → NoSymbol (lexeme_read text t.lexeme)
-    → is_token closing (lexeme_read text t.lexeme) ≡ false → is_token opening (lexeme_read text t.lexeme) ≡ false → WrongAt text t.place
-nothing_bare text sn cs w row outer at r t l s n f p q = go (lexeme_read text t.lexeme) refl f p q
+    → (t : Token) → Lexed text at t → (s : Sort) → next w ≡ some s → NoSymbol (lexeme_read t.lexeme)
+    → is_token closing (lexeme_read t.lexeme) ≡ false → is_token opening (lexeme_read t.lexeme) ≡ false → WrongAt text t.place
+nothing_bare text sn cs w row outer at r t l s n f p q = go (lexeme_read t.lexeme) refl f p q
   where
-    go : (o : Option tokens.Token) → lexeme_read text t.lexeme ≡ o → NoSymbol o → is_token closing o ≡ false → is_token opening o ≡ false → WrongAt text t.place
+    go : (o : Option tokens.Token) → lexeme_read t.lexeme ≡ o → NoSymbol o → is_token closing o ≡ false → is_token opening o ≡ false → WrongAt text t.place
     go none e f p q = ends text (in_list sn cs w row outer) at r t l (end_place text at t t.lexeme l.fits e) e refl
     go (some x) e f p q =
         bare_wrong text sn cs w row outer at r t l s n x e (same_swapped x closing ∙ p) (same_swapped x opening ∙ q) (bare_none (symbols_in cs) s x f)
@@ -113,7 +113,7 @@ module _ {sig : List Symbol} (small : Small sig) (head : code.Head) (args : Term
 -- a bare term
 pub bare_read : {text sn : List ℕ} {cs : List Command} {shelf : List Shelved} {d : Declared} {w : Wanted} {terms : Terms} {outer : List Opened} {at : ℕ} {t : Token} {f : sorts.Sort}
     {levels : ℕ} {v v' : Maybe.Option (List Node)} (name : List ℕ) (head : code.Head) {row : Row} {r : ℕ}
-    → TermWanted text sn cs shelf d w terms outer at t f levels v → lexeme_read text t.lexeme ≡ some (symbol name)
+    → TermWanted text sn cs shelf d w terms outer at t f levels v → lexeme_read t.lexeme ≡ some (symbol name)
     → bare (symbols_in cs) (sort_read f) (symbol name) ≡ some (head_read head) → RowIs no_row row → Finishes head row v r v'
     → TermRead text sn cs w terms outer f v t.next r v'
 bare_read {text} {sn} {cs} {w = w} {terms} {outer} {at} {t} {f} {levels} {v} name head wanted e b is ends =

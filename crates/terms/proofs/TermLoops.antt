@@ -57,8 +57,8 @@ left_later (suc n) w = left_later n (grammar.left w)
 module _ {text sn : List ℕ} {cs : List Command} {shelf : List Shelved} {d : Declared} (head : Head) where
   -- a bracket, and the head after it
   pub list_begun : {w : Wanted} {row : Terms} {outer : List Opened} {at : ℕ} {t : Token} {f : sorts.Sort} {levels : ℕ} {v : code.Option (List Node)}
-      → TermWanted text sn cs shelf d w row outer at t f levels v → lexeme_read text t.lexeme ≡ some opening → (levels ≡ 0 → ⊥)
-      → (named : Token) → Lexed text t.next named → (x : tokens.Token) → lexeme_read text named.lexeme ≡ some x
+      → TermWanted text sn cs shelf d w row outer at t f levels v → lexeme_read t.lexeme ≡ some opening → (levels ≡ 0 → ⊥)
+      → (named : Token) → Lexed text t.next named → (x : tokens.Token) → lexeme_read named.lexeme ≡ some x
       → bracketed (symbols_in cs) (sort_read f) x ≡ some (head_read head) → ArityIs (symbols_in cs) head
       → ListBegun text sn cs shelf d head levels (bracket_of head w row) outer v named.next
   list_begun {w} {row} {outer} {at} {t} {f} {levels} {v} wanted e z named lexed x p b arity =
@@ -93,14 +93,14 @@ module _ {text sn : List ℕ} {cs : List Command} {shelf : List Shelved} {d : De
       abbrev w : Wanted
       w = left_after (length (trees_of inside.args)) (wanted_by (symbols_in cs) (head_read head))
 
-      pub arguments_wrong : NoNext (lexeme_read text t.lexeme) w → WrongAt text t.place
+      pub arguments_wrong : NoNext (lexeme_read t.lexeme) w → WrongAt text t.place
       arguments_wrong (inl e) =
           ends text (in_list sn cs w inside.args (o ∷ outer)) at inside.reached t lexed (end_place text at t t.lexeme lexed.fits e) e refl
       arguments_wrong (inr (inl (e, f))) = closed_early text sn cs w inside.args (o ∷ outer) at inside.reached t lexed e f
       arguments_wrong (inr (inr (e, f))) = none_wanted_lem text sn cs w inside.args (o ∷ outer) at inside.reached t lexed f e
 
       -- the list ends
-      pub arguments_end : {w₀ : Wanted} {row₀ : Terms} {f : sorts.Sort} → o ≡ bracket_of head w₀ row₀ → sort_of_head (head_read head) ≡ sort_read f → NextIs text t w (Ok None)
+      pub arguments_end : {w₀ : Wanted} {row₀ : Terms} {f : sorts.Sort} → o ≡ bracket_of head w₀ row₀ → sort_of_head (head_read head) ≡ sort_read f → NextIs t w (Ok None)
           → {r : ℕ} {v' : code.Option (List Node)} → Finishes head row v r v' → TermRead text sn cs w₀ row₀ outer f v₀ t.next r v'
       arguments_end {w₀} {row₀} e s (p, q) {r} {v'} finishes =
           let sig = symbols_in cs in
@@ -149,7 +149,7 @@ module _ {text sn : List ℕ} {cs : List Command} {shelf : List Shelved} {d : De
               symbols_few = λ q. begun.good.symbols_few (had_room q);
             }
 
-        pub argument_wanted : {f : sorts.Sort} → NextIs text t w (Ok (Some f))
+        pub argument_wanted : {f : sorts.Sort} → NextIs t w (Ok (Some f))
             → TermWanted text sn cs shelf d w inside.args (o ∷ outer) at t f (levels - 1) v'
         argument_wanted (e, n) =
             record {
@@ -163,7 +163,7 @@ module _ {text sn : List ℕ} {cs : List Command} {shelf : List Shelved} {d : De
             }
 
         -- and is read
-        pub argument_added : {f : sorts.Sort} {after a : ℕ} {v₁ v₂ : code.Option (List Node)} {row₂ : Row} → NextIs text t w (Ok (Some f))
+        pub argument_added : {f : sorts.Sort} {after a : ℕ} {v₁ v₂ : code.Option (List Node)} {row₂ : Row} → NextIs t w (Ok (Some f))
             → TermRead text sn cs w inside.args (o ∷ outer) f v' after a v₁
             → Rows (λ k u. added (head_read head) k a u) row' v₁ row₂ v₂
             → row'.seen ≡ row.seen → row₂.seen ≡ min (suc row'.seen) 3

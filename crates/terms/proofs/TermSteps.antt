@@ -70,28 +70,28 @@ module _ (text sn : List ℕ) (cs : List Command) (w : Wanted) (row : Terms) (ou
         ]) f
 
     -- a bracket
-    pub bracket_opens : lexeme_read text t.lexeme ≡ some opening → length outer < 64 → Reached text (at_head sn cs s w row outer) t.next
+    pub bracket_opens : lexeme_read t.lexeme ≡ some opening → length outer < 64 → Reached text (at_head sn cs s w row outer) t.next
     bracket_opens e h = moves text st at r t l opening (at_head sn cs s w row outer) e (begun_by opening refl refl) (omega arith)
 
-    pub bracket_deep : lexeme_read text t.lexeme ≡ some opening → 64 ≤ length outer → script_read text ≡ refused (refuse 15 t.place)
+    pub bracket_deep : lexeme_read t.lexeme ≡ some opening → 64 ≤ length outer → script_read text ≡ refused (refuse 15 t.place)
     bracket_deep e h = deep text st at r t l opening (at_head sn cs s w row outer) e (begun_by opening refl refl) (omega arith)
 
     -- a head that stands bare; any other token
-    pub bare_taken : (x : tokens.Token) (h : Head) → lexeme_read text t.lexeme ≡ some x → same_token x closing ≡ false → same_token x opening ≡ false
+    pub bare_taken : (x : tokens.Token) (h : Head) → lexeme_read t.lexeme ≡ some x → same_token x closing ≡ false → same_token x opening ≡ false
         → bare sig s x ≡ some h → length outer ≤ 64 → Reached text (in_list sn cs (left w) (put row h end) outer) t.next
     bare_taken x h e p q b k =
         moves text st at r t l x (in_list sn cs (left w) (put row h end) outer) e
         (begun_by x p q ∙ ap (λ (o : Option Head). elim o [ none ↦ none | some g ↦ some (in_list sn cs (left w) (put row g end) outer) ]) b) k
 
-    pub bare_wrong : (x : tokens.Token) → lexeme_read text t.lexeme ≡ some x → same_token x closing ≡ false → same_token x opening ≡ false
+    pub bare_wrong : (x : tokens.Token) → lexeme_read t.lexeme ≡ some x → same_token x closing ≡ false → same_token x opening ≡ false
         → bare sig s x ≡ none → WrongAt text t.place
     bare_wrong x e p q b =
         stuck text st at r t l x e
         (begun_by x p q ∙ ap (λ (o : Option Head). elim o as (λ _. Option State) [ none ↦ none | some g ↦ some (in_list sn cs (left w) (put row g end) outer) ]) b)
 
   -- nothing more is wanted
-  pub none_wanted_lem : next w ≡ none → is_token closing (lexeme_read text t.lexeme) ≡ false → WrongAt text t.place
-  none_wanted_lem n e = wrong_here text st at r t l (go (lexeme_read text t.lexeme) e) refl
+  pub none_wanted_lem : next w ≡ none → is_token closing (lexeme_read t.lexeme) ≡ false → WrongAt text t.place
+  none_wanted_lem n e = wrong_here text st at r t l (go (lexeme_read t.lexeme) e) refl
     where
       go : (o : Option tokens.Token) → is_token closing o ≡ false → stepped st o ≡ none
       go none q = refl
@@ -112,18 +112,18 @@ module _ (text sn : List ℕ) (cs : List Command) (w : Wanted) (row : Terms) (ou
         | false ↦ none
       ]) e
 
-  pub closed_early : lexeme_read text t.lexeme ≡ some closing → ready w ≡ false → WrongAt text t.place
+  pub closed_early : lexeme_read t.lexeme ≡ some closing → ready w ≡ false → WrongAt text t.place
   closed_early e f = stuck text st at r t l closing e (closes_by f)
 
 -- the end of a term's list, and of an assert's
 pub list_closes : (text sn : List ℕ) (cs : List Command) (w : Wanted) (row : Terms) (o : Opened) (os : List Opened) (at : ℕ)
-    → Reached text (in_list sn cs w row (o ∷ os)) at → (t : Token) → Lexed text at t → lexeme_read text t.lexeme ≡ some closing → ready w ≡ true
+    → Reached text (in_list sn cs w row (o ∷ os)) at → (t : Token) → Lexed text at t → lexeme_read t.lexeme ≡ some closing → ready w ≡ true
     → length os ≤ 64 → Reached text (in_list sn cs (left o.wanted) (put o.before o.head row) os) t.next
 list_closes text sn cs w row o os at r t l e f k =
     moves text (in_list sn cs w row (o ∷ os)) at r t l closing _ e (closes_by text sn cs w row (o ∷ os) at r t l f) k
 
 pub assert_closes : (text sn : List ℕ) (cs : List Command) (w : Wanted) (row : Terms) (at : ℕ)
-    → Reached text (in_list sn cs w row []) at → (t : Token) → Lexed text at t → lexeme_read text t.lexeme ≡ some closing → ready w ≡ true
+    → Reached text (in_list sn cs w row []) at → (t : Token) → Lexed text at t → lexeme_read t.lexeme ≡ some closing → ready w ≡ true
     → Reached text (at_command sn (snoc cs (assert row))) t.next
 assert_closes text sn cs w row at r t l e f =
     moves text (in_list sn cs w row []) at r t l closing _ e (closes_by text sn cs w row [] at r t l f) (omega arith)
@@ -140,12 +140,12 @@ module _ (text sn : List ℕ) (cs : List Command) (s : Sort) (w : Wanted) (row :
   headed_by x e =
       ap (λ (o : Option Head). elim o as (λ _. Option State) [ none ↦ none | some h ↦ some (in_list sn cs (wanted_by (symbols_in cs) h) end (opened h ∷ outer)) ]) e
 
-  pub head_taken : (x : tokens.Token) (h : Head) → lexeme_read text t.lexeme ≡ some x → bracketed (symbols_in cs) s x ≡ some h → length outer < 64
+  pub head_taken : (x : tokens.Token) (h : Head) → lexeme_read t.lexeme ≡ some x → bracketed (symbols_in cs) s x ≡ some h → length outer < 64
       → Reached text (in_list sn cs (wanted_by (symbols_in cs) h) end (opened h ∷ outer)) t.next
   head_taken x h e b k = moves text (at_head sn cs s w row outer) at r t l x _ e (headed_by x b) (omega arith)
 
-  pub head_wrong : NoHead (symbols_in cs) s (lexeme_read text t.lexeme) → WrongAt text t.place
-  head_wrong f = wrong_here text (at_head sn cs s w row outer) at r t l (go (lexeme_read text t.lexeme) f) refl
+  pub head_wrong : NoHead (symbols_in cs) s (lexeme_read t.lexeme) → WrongAt text t.place
+  head_wrong f = wrong_here text (at_head sn cs s w row outer) at r t l (go (lexeme_read t.lexeme) f) refl
     where
       go : (o : Option tokens.Token) → NoHead (symbols_in cs) s o → stepped (at_head sn cs s w row outer) o ≡ none
       go none q = refl

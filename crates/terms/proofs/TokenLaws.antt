@@ -49,7 +49,7 @@ module _ (text : List ℕ) (place : ℕ) (h : place < length text) where
       let read = bracket (eqb b 40) (eqb b 41) in
       let width : (token_there text place).width ≡ 1 = ap (λ (x : tokens.Lexeme). x.width) there ∙ read.1 in
       record {
-        token_is = ap (lexeme_read text) e ∙ read.0 ∙ ap some (sym (ap (λ (x : tokens.Lexeme). x.token) there));
+        token_is = ap lexeme_read e ∙ read.0 ∙ ap some (sym (ap (λ (x : tokens.Lexeme). x.token) there));
         next_is = omega arith;
         place_is = refl;
         fits = subst (λ (x : Lexeme). LexemeWithin text place (token l place (place + 1)) x) (sym e) read.2;
@@ -62,7 +62,7 @@ module _ (text : List ℕ) (place : ℕ) (h : place < length text) where
       lexemes : Bool → Bool → Lexeme
       lexemes p q = elim p [ true ↦ Lexeme.Opening | false ↦ elim q [ true ↦ Lexeme.Closing | false ↦ Lexeme.Wrong ] ]
 
-      bracket : (p q : Bool) → (lexeme_read text (lexemes p q) ≡ some (bytes p q).token) × ((bytes p q).width ≡ 1)
+      bracket : (p q : Bool) → (lexeme_read (lexemes p q) ≡ some (bytes p q).token) × ((bytes p q).width ≡ 1)
           × LexemeWithin text place (token l place (place + 1)) (lexemes p q)
       bracket true q = (refl, refl, omega arith)
       bracket false true = (refl, refl, omega arith)

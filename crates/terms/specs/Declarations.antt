@@ -9,8 +9,7 @@ use Rattle.definitions.specs.Text.Grammar.{Symbol, no_symbol}
 use Rattle.definitions.specs.Text.Nodes.{byte_of}
 use Rattle.definitions.specs.Text.Reader.{symbol_name}
 use Rattle.theorems.specs.Texts.{plain_tokens}
-use Rattle.terms.specs.Lexing.{tokens_at, NameWithin}
-use Rattle.terms.specs.declared.tokens.Name.{Name}
+use Rattle.terms.specs.Lexing.{tokens_at}
 use Rattle.terms.specs.declared.tokens.Lexeme.{Lexeme}
 use Rattle.terms.specs.declared.declarations.Counted.{Counted}
 
@@ -53,17 +52,14 @@ first_name [] = []
 first_name (t ∷ ts) = name_of t
 
 -- the name of a lexeme; the empty one if it has none
-abbrev pub name_in : Lexeme → Name
-name_in Lexeme.End = record { from = 0; to = 0 }
-name_in Lexeme.Opening = record { from = 0; to = 0 }
-name_in Lexeme.Closing = record { from = 0; to = 0 }
-name_in Lexeme.Nought = record { from = 0; to = 0 }
-name_in Lexeme.Wrong = record { from = 0; to = 0 }
-name_in (Lexeme.Symbol n) = n
-name_in (Lexeme.Word n) = n
-
-abbrev pub LexemeInside : List ℕ → Lexeme → Type 0
-LexemeInside text l = NameWithin text (name_in l)
+abbrev pub name_in : Lexeme → List ℕ
+name_in Lexeme.End = []
+name_in Lexeme.Opening = []
+name_in Lexeme.Closing = []
+name_in Lexeme.Nought = []
+name_in Lexeme.Wrong = []
+name_in (Lexeme.Symbol name) = name.now
+name_in (Lexeme.Word name) = name.now
 
 -- the offset behind the first word declare-fun
 abbrev pub DeclaresNext : List ℕ → ℕ → Option ℕ → Type 0

@@ -33,24 +33,24 @@ HeadIs sig s o None = NoHead sig s o
 
 pub record HeadsAt (text : List ℕ) (shelf : List Shelved) (d : Declared) (l : Lexeme) (s : Sort) (r : Option Head) : Type 0 where
   pub small : HeadedSmall r
-  pub head : (sn : List ℕ) (cs : List Command) → Symbols text sn cs shelf d → HeadIs (symbols_in cs) (sort_read s) (lexeme_read text l) r
+  pub head : (sn : List ℕ) (cs : List Command) → Symbols text sn cs shelf d → HeadIs (symbols_in cs) (sort_read s) (lexeme_read l) r
 
 -- a token will not do where such arguments are wanted
 abbrev pub NoNext : maths.Option tokens.Token → grammar.Wanted → Type 0
 NoNext o w = (o ≡ none) ⊎ (((o ≡ some closing) × (ready w ≡ false)) ⊎ ((is_token closing o ≡ false) × (next w ≡ none)))
 
 -- what a token says where such arguments are wanted: an argument, the list's end, or that it is refused
-abbrev pub NextIs : List ℕ → Token → grammar.Wanted → Result (Option Sort) Refusal → Type 0
-NextIs text t w (Ok (Some s)) = (is_token closing (lexeme_read text t.lexeme) ≡ false) × (next w ≡ some (sort_read s))
-NextIs text t w (Ok None) = (lexeme_read text t.lexeme ≡ some closing) × (ready w ≡ true)
-NextIs text t w (Err refusal) = (refusal ≡ Refusal.WrongToken t.place) × NoNext (lexeme_read text t.lexeme) w
+abbrev pub NextIs : Token → grammar.Wanted → Result (Option Sort) Refusal → Type 0
+NextIs t w (Ok (Some s)) = (is_token closing (lexeme_read t.lexeme) ≡ false) × (next w ≡ some (sort_read s))
+NextIs t w (Ok None) = (lexeme_read t.lexeme ≡ some closing) × (ready w ≡ true)
+NextIs t w (Err refusal) = (refusal ≡ Refusal.WrongToken t.place) × NoNext (lexeme_read t.lexeme) w
 
 -- whatever is read, an argument or the end is a token
 abbrev pub NextSound : Lexeme → Result (Option Sort) Refusal → Type 0
-NextSound l (Ok o) = (text : List ℕ) → (x : tokens.Token) × (lexeme_read text l ≡ some x)
+NextSound l (Ok o) = (x : tokens.Token) × (lexeme_read l ≡ some x)
 NextSound l (Err refusal) = Unit {0}
 
 pub record Follows (head : Head) (seen : ℕ) (t : Token) (r : Result (Option Sort) Refusal) : Type 0 where
   pub sound : NextSound t.lexeme r
-  pub says : (text : List ℕ) (sig : List Symbol) → ArityIs sig head → (n : ℕ) → seen ≡ min n 3
-      → NextIs text t (left_after n (wanted_by sig (head_read head))) r
+  pub says : (sig : List Symbol) → ArityIs sig head → (n : ℕ) → seen ≡ min n 3
+      → NextIs t (left_after n (wanted_by sig (head_read head))) r

@@ -5,7 +5,6 @@ use Rattle.definitions.specs.Problem.Ops.{Sort}
 use Rattle.definitions.specs.Text.Grammar.{Symbol, Command, declare, symbols_in, new_function}
 use Rattle.definitions.specs.Text.Reader.{State, declaring}
 use Rattle.definitions.specs.Text.Nodes.{byte_of}
-use Rattle.terms.specs.Lexing.{name_of, NameWithin}
 use Rattle.terms.specs.Reading.{Reached, WrongAt}
 use Rattle.terms.specs.Symbols.{symbol_byte, at_command, Symbols}
 use Rattle.terms.specs.Ranks.{in_taking, in_giving}
@@ -23,11 +22,11 @@ in_declaring sn cs = record { sort_name = sn; commands = cs; stage = declaring }
 -- a new name and the bracket after it are read, or it is refused
 abbrev pub NameIs : List ℕ → List ℕ → List Command → Result Named WrongToken → Type 0
 NameIs text sn cs (Ok n) =
-    Reached text (in_taking sn cs (name_of text n.name) 0) n.at × (new_function (symbols_in cs) (name_of text n.name) ≡ true)
+    Reached text (in_taking sn cs n.name.now 0) n.at × (new_function (symbols_in cs) n.name.now ≡ true)
 NameIs text sn cs (Err w) = WrongAt text w.0
 
 abbrev pub NameSound : List ℕ → ℕ → Result Named WrongToken → Type 0
-NameSound text from (Ok n) = NameWithin text n.name × (n.at ≤ length text) × (from ≤ n.at)
+NameSound text from (Ok n) = (n.at ≤ length text) × (from ≤ n.at)
 NameSound text from (Err w) = Unit {0}
 
 pub record ReadsName (text : List ℕ) (shelf : List Shelved) (d : Declared) (at : ℕ) (r : Result Named WrongToken) : Type 0 where
@@ -62,11 +61,11 @@ pub record FunctionRead (text sn : List ℕ) (cs : List Command) (name : List �
   pub reached : Reached text (at_command sn (snoc cs (declare declared))) at
 
 abbrev pub FunctionIs : List ℕ → List ℕ → List Command → Result Function WrongToken → Type 0
-FunctionIs text sn cs (Ok f) = FunctionRead text sn cs (name_of text f.name) f.byte f.at
+FunctionIs text sn cs (Ok f) = FunctionRead text sn cs f.name.now f.byte f.at
 FunctionIs text sn cs (Err w) = WrongAt text w.0
 
 abbrev pub FunctionSound : List ℕ → ℕ → Result Function WrongToken → Type 0
-FunctionSound text from (Ok f) = NameWithin text f.name × (f.byte < 20) × (f.at ≤ length text) × (from ≤ f.at)
+FunctionSound text from (Ok f) = (f.byte < 20) × (f.at ≤ length text) × (from ≤ f.at)
 FunctionSound text from (Err w) = Unit {0}
 
 pub record ReadsFunction (text : List ℕ) (shelf : List Shelved) (d : Declared) (at : ℕ) (r : Result Function WrongToken) : Type 0 where

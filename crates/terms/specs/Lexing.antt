@@ -5,7 +5,6 @@ use Rattle.std.proofs.Math.Option.{Option, none, some}
 use Rattle.definitions.specs.Text.Ascii.{same_bytes}
 use Rattle.definitions.specs.Text.Tokens.{opening, closing, nought, wrong, symbol, word, Placed, token_at, tokens_from, blank, barred}
 use Rattle.definitions.specs.Text.Tokens as tokens
-use Rattle.terms.specs.declared.tokens.Name.{Name}
 use Rattle.terms.specs.declared.tokens.Lexeme.{Lexeme}
 use Rattle.terms.specs.declared.tokens.Token.{Token}
 
@@ -13,18 +12,15 @@ use Rattle.terms.specs.declared.tokens.Token.{Token}
 abbrev pub between : List ℕ → ℕ → ℕ → List ℕ
 between text from to = take (to - from) (drop from text)
 
-abbrev pub name_of : List ℕ → Name → List ℕ
-name_of text n = between text n.from n.to
-
 -- the token that a lexeme stands for; none at the end of the text
-abbrev pub lexeme_read : List ℕ → Lexeme → Option tokens.Token
-lexeme_read text Lexeme.End = none
-lexeme_read text Lexeme.Opening = some opening
-lexeme_read text Lexeme.Closing = some closing
-lexeme_read text Lexeme.Nought = some nought
-lexeme_read text Lexeme.Wrong = some wrong
-lexeme_read text (Lexeme.Symbol n) = some (symbol (name_of text n))
-lexeme_read text (Lexeme.Word n) = some (word (name_of text n))
+abbrev pub lexeme_read : Lexeme → Option tokens.Token
+lexeme_read Lexeme.End = none
+lexeme_read Lexeme.Opening = some opening
+lexeme_read Lexeme.Closing = some closing
+lexeme_read Lexeme.Nought = some nought
+lexeme_read Lexeme.Wrong = some wrong
+lexeme_read (Lexeme.Symbol name) = some (symbol name.now)
+lexeme_read (Lexeme.Word name) = some (word name.now)
 
 -- the tokens from an offset on
 unfoldable pub tokens_at : List ℕ → ℕ → List Placed
@@ -34,29 +30,15 @@ abbrev pub led : List ℕ → ℕ → ℕ → Option tokens.Token → List Place
 led text place next none = []
 led text place next (some t) = record { token = t; place = place } ∷ tokens_at text next
 
--- a name lies within the text
-abbrev pub NameWithin : List ℕ → Name → Type 0
-NameWithin text n = (n.from ≤ n.to) × (n.to ≤ length text)
-
--- what is so of the lexeme: a name lies within the text, and the end is the text's end
+-- the end is the text's end, and any other lexeme is passed
 abbrev pub LexemeWithin : List ℕ → ℕ → Token → Lexeme → Type 0
 LexemeWithin text at t Lexeme.End = t.place ≡ length text
 LexemeWithin text at t Lexeme.Opening = at < t.next
 LexemeWithin text at t Lexeme.Closing = at < t.next
 LexemeWithin text at t Lexeme.Nought = at < t.next
 LexemeWithin text at t Lexeme.Wrong = at < t.next
-LexemeWithin text at t (Lexeme.Symbol n) = (at < t.next) × NameWithin text n
-LexemeWithin text at t (Lexeme.Word n) = (at < t.next) × NameWithin text n
-
--- a lexeme's name lies within the text
-abbrev pub LexemeFits : List ℕ → Lexeme → Type 0
-LexemeFits text Lexeme.End = Unit {0}
-LexemeFits text Lexeme.Opening = Unit {0}
-LexemeFits text Lexeme.Closing = Unit {0}
-LexemeFits text Lexeme.Nought = Unit {0}
-LexemeFits text Lexeme.Wrong = Unit {0}
-LexemeFits text (Lexeme.Symbol n) = NameWithin text n
-LexemeFits text (Lexeme.Word n) = NameWithin text n
+LexemeWithin text at t (Lexeme.Symbol name) = at < t.next
+LexemeWithin text at t (Lexeme.Word name) = at < t.next
 
 -- a word of digits: 0 alone is a token (L4); a byte by itself: a bracket, or no token (L7)
 abbrev pub numeral_read : List ℕ → Lexeme
@@ -70,7 +52,7 @@ abbrev pub token_there : List ℕ → ℕ → tokens.Lexeme
 token_there text place = token_at (get_or text place 0) (drop (place + 1) text)
 
 pub record TokenIs (text : List ℕ) (place : ℕ) (t : Token) : Type 0 where
-  pub token_is : lexeme_read text t.lexeme ≡ some (token_there text place).token
+  pub token_is : lexeme_read t.lexeme ≡ some (token_there text place).token
   pub next_is : t.next ≡ place + (token_there text place).width
   pub place_is : t.place ≡ place
   pub fits : LexemeWithin text place t t.lexeme
@@ -78,7 +60,7 @@ pub record TokenIs (text : List ℕ) (place : ℕ) (t : Token) : Type 0 where
 
 -- the token is the first from this offset on, and the others follow from its end on
 pub record Lexed (text : List ℕ) (at : ℕ) (t : Token) : Type 0 where
-  pub tokens_are : tokens_at text at ≡ led text t.place t.next (lexeme_read text t.lexeme)
+  pub tokens_are : tokens_at text at ≡ led text t.place t.next (lexeme_read t.lexeme)
   pub fits : LexemeWithin text at t t.lexeme
   pub later : at ≤ t.next
   pub inside : t.next ≤ length text

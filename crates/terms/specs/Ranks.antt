@@ -14,12 +14,12 @@ use Rattle.terms.specs.declared.declarations.Counted.{Counted}
 use Rattle.terms.specs.declared.ranks.Given.{Given}
 
 -- a closing bracket, the sort, Bool, or none of them
-abbrev pub PartIs : List ℕ → Lexeme → List ℕ → Part → Type 0
-PartIs text l sn Part.Closing = lexeme_read text l ≡ some closing
-PartIs text l sn Part.Sort = lexeme_read text l ≡ some (symbol sn)
-PartIs text l sn Part.Bool = (lexeme_read text l ≡ some (symbol BOOL)) × (is_token (symbol sn) (lexeme_read text l) ≡ false)
-PartIs text l sn Part.Other =
-    (is_token closing (lexeme_read text l) ≡ false) × (is_token (symbol sn) (lexeme_read text l) ≡ false) × (is_token (symbol BOOL) (lexeme_read text l) ≡ false)
+abbrev pub PartIs : Lexeme → List ℕ → Part → Type 0
+PartIs l sn Part.Closing = lexeme_read l ≡ some closing
+PartIs l sn Part.Sort = lexeme_read l ≡ some (symbol sn)
+PartIs l sn Part.Bool = (lexeme_read l ≡ some (symbol BOOL)) × (is_token (symbol sn) (lexeme_read l) ≡ false)
+PartIs l sn Part.Other =
+    (is_token closing (lexeme_read l) ≡ false) × (is_token (symbol sn) (lexeme_read l) ≡ false) × (is_token (symbol BOOL) (lexeme_read l) ≡ false)
 
 -- a function of this name is declared with so many arguments so far; and its result may come
 abbrev pub in_taking : List ℕ → List Command → List ℕ → ℕ → State

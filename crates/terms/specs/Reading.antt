@@ -35,8 +35,8 @@ NoSymbol (some x) = symbol_name x ≡ none
 
 -- this very token stands first from an offset on, and the next offset is behind it; or another does, or none, at a place
 abbrev pub Exactly : List ℕ → ℕ → tokens.Token → Result ℕ WrongToken → Type 0
-Exactly text at x (Ok next) = (t : Token) × Lexed text at t × (lexeme_read text t.lexeme ≡ some x) × (t.next ≡ next)
-Exactly text at x (Err w) = (t : Token) × Lexed text at t × (is_token x (lexeme_read text t.lexeme) ≡ false) × (t.place ≡ w.0)
+Exactly text at x (Ok next) = (t : Token) × Lexed text at t × (lexeme_read t.lexeme ≡ some x) × (t.next ≡ next)
+Exactly text at x (Err w) = (t : Token) × Lexed text at t × (is_token x (lexeme_read t.lexeme) ≡ false) × (t.place ≡ w.0)
 
 abbrev pub due_read : Due → tokens.Token
 due_read Due.Opening = opening

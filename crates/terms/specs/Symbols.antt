@@ -1,5 +1,5 @@
 -- The declared symbols as the code keeps them (02, E1). Assumes nothing.
-use Rattle.std.specs.Prelude.{◌≡◌, ℕ, ◌≤◌, ◌<◌, Bool, true, false, List, length, get_or, Option, Some, None}
+use Rattle.std.specs.Prelude.{◌≡◌, ℕ, ◌≤◌, ◌<◌, Bool, true, false, List, [], length, get_or, Option, Some, None}
 use Rattle.std.proofs.Math.Option.{none, some}
 use Rattle.definitions.specs.Problem.Ops.{term}
 use Rattle.definitions.specs.Text.Ascii.{same_bytes}
@@ -8,7 +8,6 @@ use Rattle.definitions.specs.Text.Grammar.{Symbol, symbol_at, symbols_in, Comman
 use Rattle.definitions.specs.Text.Heads.{inhabited}
 use Rattle.definitions.specs.Text.Reader.{State, exact, commanding}
 use Rattle.definitions.specs.Text.Nodes.{byte_of}
-use Rattle.terms.specs.Lexing.{name_of, NameWithin}
 use Rattle.terms.specs.Reading.{Reached}
 use Rattle.terms.specs.Named.{resolve}
 use Rattle.terms.specs.declared.declared.Declared.{Declared}
@@ -21,10 +20,10 @@ symbol_byte y = byte_of y.arity y.result
 
 -- what a shelf says of symbol i: its name, and its byte
 abbrev pub place_on : List Shelved → ℕ → Shelved
-place_on shelf i = get_or shelf i (record { name = record { from = 0; to = 0 }; byte = 0 })
+place_on shelf i = get_or shelf i (record { name = record { ref_ptr = (0, 0); now = [] }; byte = 0 })
 
-abbrev pub name_on : List ℕ → List Shelved → ℕ → List ℕ
-name_on text shelf i = name_of text (place_on shelf i).name
+abbrev pub name_on : List Shelved → ℕ → List ℕ
+name_on shelf i = (place_on shelf i).name.now
 
 abbrev pub byte_on : List Shelved → ℕ → ℕ
 byte_on shelf i = (place_on shelf i).byte
@@ -33,15 +32,14 @@ byte_on shelf i = (place_on shelf i).byte
 abbrev pub OnShelf : List Shelved → ℕ → ℕ → Type 0
 OnShelf shelf count i = (i < count) × (i < length shelf)
 
--- names on the shelf lie within the text, and bytes are small
-pub record ShelfSound (text : List ℕ) (shelf : List Shelved) (count : ℕ) : Type 0 where
-  pub inside : (i : ℕ) → OnShelf shelf count i → NameWithin text (place_on shelf i).name
-  pub small : (i : ℕ) → OnShelf shelf count i → byte_on shelf i < 20
+-- bytes on the shelf are small
+abbrev pub ShelfSound : List Shelved → ℕ → Type 0
+ShelfSound shelf count = (i : ℕ) → OnShelf shelf count i → byte_on shelf i < 20
 
 -- the shelf has the first of these symbols
-pub record Shelves (text : List ℕ) (sig : List Symbol) (shelf : List Shelved) (d : Declared) : Type 0 where
+pub record Shelves (sig : List Symbol) (shelf : List Shelved) (d : Declared) : Type 0 where
   pub counted : d.count ≡ length sig
-  pub named : (i : ℕ) → OnShelf shelf d.count i → name_on text shelf i ≡ (symbol_at sig i).name
+  pub named : (i : ℕ) → OnShelf shelf d.count i → name_on shelf i ≡ (symbol_at sig i).name
   pub typed : (i : ℕ) → OnShelf shelf d.count i → byte_on shelf i ≡ symbol_byte (symbol_at sig i)
   pub inhabits : d.inhabited ≡ inhabited sig term
 
@@ -51,15 +49,14 @@ at_command sn cs = record { sort_name = sn; commands = cs; stage = exact opening
 
 -- the symbols of a text that is read so far
 pub record Symbols (text : List ℕ) (sn : List ℕ) (cs : List Command) (shelf : List Shelved) (d : Declared) : Type 0 where
-  pub sort_is_lem : sn ≡ name_of text d.sort
-  pub shelved : Shelves text (symbols_in cs) shelf d
+  pub sort_is_lem : sn ≡ d.sort.now
+  pub shelved : Shelves (symbols_in cs) shelf d
   pub reached : Reached text (at_command sn cs) d.command
 
--- what holds whatever is read: offsets lie within the text
+-- what holds whatever is read: bytes are small, and the next command's offset lies within the text
 pub record DeclaredSound (text : List ℕ) (shelf : List Shelved) (d : Declared) : Type 0 where
-  pub sound : ShelfSound text shelf d.count
+  pub sound : ShelfSound shelf d.count
   pub command_inside : d.command ≤ length text
-  pub sort_inside : NameWithin text d.sort
 
 -- the symbol of a name
 abbrev pub KnownIs : List Symbol → List ℕ → Option Known → Type 0
@@ -67,10 +64,10 @@ KnownIs sig name (Some k) = (resolve sig name ≡ some k.number) × (k.byte ≡ 
 KnownIs sig name None = resolve sig name ≡ none
 
 -- the first place on the shelf that has a name
-abbrev pub FoundOn : List ℕ → List Shelved → List ℕ → Option ℕ → Type 0
-FoundOn text shelf name (Some i) =
-    (i < length shelf) × (same_bytes name (name_on text shelf i) ≡ true) × ((j : ℕ) → j < i → same_bytes name (name_on text shelf j) ≡ false)
-FoundOn text shelf name None = (j : ℕ) → j < length shelf → same_bytes name (name_on text shelf j) ≡ false
+abbrev pub FoundOn : List Shelved → List ℕ → Option ℕ → Type 0
+FoundOn shelf name (Some i) =
+    (i < length shelf) × (same_bytes name (name_on shelf i) ≡ true) × ((j : ℕ) → j < i → same_bytes name (name_on shelf j) ≡ false)
+FoundOn shelf name None = (j : ℕ) → j < length shelf → same_bytes name (name_on shelf j) ≡ false
 
 -- the symbol of a name, whose byte is right if it takes at most three arguments
 abbrev pub KnownIn : List Symbol → List ℕ → Option Known → Type 0

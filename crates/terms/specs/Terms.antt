@@ -15,7 +15,7 @@ use Rattle.theorems.specs.Origins.{NoTwins}
 use Rattle.theorems.proofs.Text.Meant.Shared.{Earlier}
 use Rattle.theorems.proofs.Text.Meant.Laying.{Full}
 use Rattle.theorems.proofs.Text.Taken.Kept.Invariant.{row_right}
-use Rattle.terms.specs.Lexing.{lexeme_read, LexemeFits, Lexed}
+use Rattle.terms.specs.Lexing.{lexeme_read, Lexed}
 use Rattle.terms.specs.Reading.{Reached, is_token}
 use Rattle.problem.specs.Wanted.{sort_read}
 use Rattle.terms.specs.Symbols.{Symbols}
@@ -46,7 +46,7 @@ pub record TermWanted (text sn : List ℕ) (cs : List Command) (shelf : List She
   pub symbols : Symbols text sn cs shelf d
   pub reached : Reached text (in_list sn cs w row outer) at
   pub lexed : Lexed text at t
-  pub unclosed : is_token closing (lexeme_read text t.lexeme) ≡ false
+  pub unclosed : is_token closing (lexeme_read t.lexeme) ≡ false
   pub wanted : next w ≡ some (sort_read s)
   pub level : length outer + levels ≡ 64
   pub good : TableGood (symbols_in cs) u
@@ -75,11 +75,6 @@ abbrev pub TermSound : List ℕ → ℕ → Result Term Refusal → Type 0
 TermSound text from (Ok r) = (from ≤ r.at) × (r.at ≤ length text)
 TermSound text from (Err refusal) = Unit {0}
 
--- what is asked of every call: offsets lie within the text
-pub record TermAsked (text : List ℕ) (t : Token) : Type 0 where
-  pub token_inside : t.next ≤ length text
-  pub lexeme_fits : LexemeFits text t.lexeme
-
 pub record ReadsTerm (text : List ℕ) (shelf : List Shelved) (d : Declared) (t : Token) (s : Sort) (levels : ℕ) (u : Option (List table.Node)) (r : Result Term Refusal) (u' : Option (List table.Node)) : Type 0 where
   pub sound : TermSound text t.next r
   pub says : (sn : List ℕ) (cs : List Command) (w : Wanted) (row : Terms) (outer : List Opened) (at : ℕ)
@@ -106,7 +101,7 @@ pub record ListReady (sig : List Symbol) (h : grammar.Head) (t : List table.Node
 -- a term with no bracket, at any level
 pub record ReadsBare (text : List ℕ) (shelf : List Shelved) (d : Declared) (t : Token) (s : Sort) (u : Option (List table.Node)) (r : Result Term Refusal) (u' : Option (List table.Node)) : Type 0 where
   pub sound : TermSound text t.next r
-  pub says : (levels : ℕ) → is_token opening (lexeme_read text t.lexeme) ≡ false → (sn : List ℕ) (cs : List Command) (w : Wanted) (row : Terms) (outer : List Opened) (at : ℕ)
+  pub says : (levels : ℕ) → is_token opening (lexeme_read t.lexeme) ≡ false → (sn : List ℕ) (cs : List Command) (w : Wanted) (row : Terms) (outer : List Opened) (at : ℕ)
       → TermWanted text sn cs shelf d w row outer at t s levels u → TermSays text sn cs w row outer s u r u'
 
 -- a bracket and its head are read, in a list with this outermost bracket
@@ -152,4 +147,4 @@ pub record ArgumentsSo (text : List ℕ) (shelf : List Shelved) (d : Declared) (
 
 -- how much of a text is left from a token on, which counts itself
 abbrev pub left_from : List ℕ → Token → ℕ
-left_from text t = elim (lexeme_read text t.lexeme) [ none ↦ 0 | some x ↦ suc (length text - t.next) ]
+left_from text t = elim (lexeme_read t.lexeme) [ none ↦ 0 | some x ↦ suc (length text - t.next) ]

@@ -1,5 +1,4 @@
 // Where a term stands and where its list goes on: the head after a bracket, and what follows in a list.
-ghost use Rattle.terms.specs.Lexing.{LexemeFits};
 ghost use Rattle.terms.specs.Following.{HeadsAt, Follows};
 
 use crate::declared::Signature;
@@ -9,9 +8,8 @@ use definitions::Refusal;
 use problem::ops::Sort;
 
 // The head that stands after a bracket.
-pub fn head_at(signature: Signature<'_>, lexeme: Lexeme, sort: Sort) -> Option<Head>
-    requires { LexemeFits signature.text.now lexeme }
-    ensures { let g = signature.entry in HeadsAt g.text.now g.shelf.now g.declared lexeme sort result }
+pub fn head_at(signature: Signature<'_, '_>, lexeme: Lexeme<'_>, sort: Sort) -> Option<Head>
+    ensures { let g = signature.entry in HeadsAt g.text.now g.shelf.now g.declared lexeme.entry sort result }
 {
     let Lexeme::Symbol(name) = lexeme else {
         return None;
@@ -20,8 +18,8 @@ pub fn head_at(signature: Signature<'_>, lexeme: Lexeme, sort: Sort) -> Option<H
 }
 
 // What a token begins after so many arguments, counted up to three: an argument of a sort, or the list's end where there is none.
-pub fn follows(head: Head, seen: usize, token: Token) -> Result<Option<Sort>, Refusal>
-    ensures { Follows head seen token result }
+pub fn follows(head: Head, seen: usize, token: Token<'_>) -> Result<Option<Sort>, Refusal>
+    ensures { Follows head seen token.entry result }
 {
     let wrong = Err(Refusal::WrongToken(token.place));
     match token.lexeme {

@@ -3,13 +3,13 @@ ghost use Rattle.std.specs.Prelude.{◌≡◌, ◌≤◌, length};
 ghost use Rattle.definitions.specs.Text.Ascii.{ascii, same_bytes};
 ghost use Rattle.definitions.specs.Text.Tokens.{word};
 ghost use Rattle.problem.specs.Wanted.{sort_read};
-ghost use Rattle.terms.specs.Lexing.{name_of, lexeme_read, NameWithin};
+ghost use Rattle.terms.specs.Lexing.{lexeme_read};
 ghost use Rattle.terms.specs.Reading.{is_token};
-ghost use Rattle.terms.specs.Declarations.{plain_at, first_name, name_in, LexemeInside, DeclaresNext, SkipsTo, ArgumentsTo, result_in, ByteIs};
+ghost use Rattle.terms.specs.Declarations.{plain_at, first_name, name_in, DeclaresNext, SkipsTo, ArgumentsTo, result_in, ByteIs};
 
 use crate::exact::{Due, exact};
 use crate::ranks::byte_of;
-use crate::tokens::{Lexeme, Name, next};
+use crate::tokens::{Lexeme, next};
 use problem::ops::Sort;
 
 // How many arguments are counted, up to three, and the offset behind the token that ends them.
@@ -32,23 +32,22 @@ fn skip(text: &[u8], at: usize) -> usize
 }
 
 // The name of a lexeme; the empty one if it has none.
-pub fn name_of(lexeme: Lexeme) -> Name
-    ensures { result ≡ name_in lexeme }
+pub fn name_of(lexeme: Lexeme<'_>) -> &[u8]
+    ensures { result.now ≡ name_in lexeme.entry }
 {
     match lexeme {
         Lexeme::Symbol(name) | Lexeme::Word(name) => name,
-        _ => Name { from: 0, to: 0 },
+        _ => b"",
     }
 }
 
 // A lexeme is the word declare-fun.
 #[tactic(auto, using(crate::proofs::SameLaws::names))]
-pub fn is_declaring(text: &[u8], lexeme: Lexeme) -> bool
-    requires { LexemeInside text.now lexeme }
-    ensures { result ≡ is_token (word (ascii "declare-fun")) (lexeme_read text.now lexeme) }
+pub fn is_declaring(lexeme: Lexeme<'_>) -> bool
+    ensures { result ≡ is_token (word (ascii "declare-fun")) (lexeme_read lexeme.entry) }
 {
     match lexeme {
-        Lexeme::Word(name) => name.of(text) == b"declare-fun".as_slice(),
+        Lexeme::Word(name) => name == b"declare-fun".as_slice(),
         _ => false,
     }
 }
@@ -64,7 +63,7 @@ pub fn declaration_from(text: &[u8], from: usize) -> Option<usize>
         let token = next(text, at);
         match token.lexeme {
             Lexeme::End => return None,
-            lexeme if is_declaring(text, lexeme) => return Some(token.next),
+            lexeme if is_declaring(lexeme) => return Some(token.next),
             _ => at = token.next,
         }
     }
@@ -72,12 +71,11 @@ pub fn declaration_from(text: &[u8], from: usize) -> Option<usize>
 
 // The declaration whose name stands at an offset is of this name.
 #[tactic(auto, using(crate::proofs::SameLaws::names))]
-pub fn declares(text: &[u8], at: usize, name: Name) -> bool
-    requires { (at ≤ length text.now) × NameWithin text.now name }
-    ensures { result ≡ same_bytes (name_of text.now name) (first_name (plain_at text.now at)) }
+pub fn declares(text: &[u8], at: usize, name: &[u8]) -> bool
+    requires { at ≤ length text.now }
+    ensures { result ≡ same_bytes name.now (first_name (plain_at text.now at)) }
 {
-    let found = name_of(next(text, at).lexeme);
-    name.of(text) == found.of(text)
+    name == name_of(next(text, at).lexeme)
 }
 
 // The symbols that stand first, up to three, and what ends them.
@@ -103,20 +101,20 @@ fn arguments(text: &[u8], from: usize) -> Counted
 }
 
 // The result at an offset: the sort, or else Bool.
-fn result_at(text: &[u8], at: usize, sort: Name) -> Sort
-    requires { (at ≤ length text.now) × NameWithin text.now sort }
-    ensures { sort_read result ≡ result_in (name_of text.now sort) (plain_at text.now at) }
+fn result_at(text: &[u8], at: usize, sort: &[u8]) -> Sort
+    requires { at ≤ length text.now }
+    ensures { sort_read result ≡ result_in sort.now (plain_at text.now at) }
 {
-    match exact(text, at, Due::Symbol(sort.of(text))) {
+    match exact(text, at, Due::Symbol(sort)) {
         Ok(_) => Sort::Term,
         Err(_) => Sort::Formula,
     }
 }
 
 // The byte of the symbol whose name stands at an offset.
-pub fn byte_at(text: &[u8], at: usize, sort: Name) -> usize
-    requires { (at ≤ length text.now) × NameWithin text.now sort }
-    ensures { ByteIs (name_of text.now sort) (plain_at text.now at) result }
+pub fn byte_at(text: &[u8], at: usize, sort: &[u8]) -> usize
+    requires { at ≤ length text.now }
+    ensures { ByteIs sort.now (plain_at text.now at) result }
 {
     let bracket = skip(text, at);
     let inner = skip(text, bracket);

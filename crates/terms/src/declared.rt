@@ -1,28 +1,26 @@
 // The declared symbols: the first of them on a shelf, and the others in the text itself.
 ghost use Rattle.std.specs.Prelude.{◌≡◌, ◌*◌, ◌≤◌, length, take};
 ghost use Rattle.definitions.specs.Text.Grammar.{solvers_own};
-ghost use Rattle.terms.specs.Lexing.{name_of, NameWithin};
 ghost use Rattle.terms.specs.Declarations.{declared_in, plain_at};
 ghost use Rattle.terms.specs.Symbols.{ShelfSound, DeclaredSound, FoundOn, KnownIn, Finds, Frees};
 
 use crate::declarations::{byte_at, declaration_from, declares};
-use crate::tokens::Name;
 use crate::words::core;
 
 // How many symbols are declared; the offset of the command that is being read, before which all of them stand; the sort's name;
 // and whether a constant of the sort is among them.
 #[derive(Clone, Copy)]
-pub struct Declared {
+pub struct Declared<'a> {
     pub count: usize,
     pub command: usize,
-    pub sort: Name,
+    pub sort: &'a [u8],
     pub inhabited: bool,
 }
 
 // A symbol on the shelf: its name, and its byte in the problem, the arity and 16 more for Bool.
 #[derive(Clone, Copy)]
-pub struct Shelved {
-    pub name: Name,
+pub struct Shelved<'a> {
+    pub name: &'a [u8],
     pub byte: usize,
 }
 
@@ -33,33 +31,26 @@ pub struct Known {
     pub byte: usize,
 }
 
-// The symbols that a text declares before a command.
+// The symbols that a text declares before a command; the shelf is lent for a shorter time than the text.
 #[derive(Clone, Copy)]
-pub struct Signature<'a> {
+pub struct Signature<'a, 's> {
     pub text: &'a [u8],
-    pub shelf: &'a [Shelved],
-    pub declared: Declared,
+    pub shelf: &'s [Shelved<'a>],
+    pub declared: Declared<'a>,
     ghost sound: { DeclaredSound text.now shelf.now declared },
 }
 
 // The first symbol of a name on the shelf.
 #[tactic(auto, using(crate::proofs::SameLaws::names))]
-fn on_shelf(text: &[u8], shelf: &[Shelved], name: Name) -> Option<usize>
-    requires { ShelfSound text.now shelf.now (length shelf.now) × NameWithin text.now name }
-    ensures { FoundOn text.now shelf.now (name_of text.now name) result }
+fn on_shelf(shelf: &[Shelved<'_>], name: &[u8]) -> Option<usize>
+    ensures { FoundOn shelf.now name.now result }
 {
-    for (i, shelved) in shelf.iter().enumerate() {
-        if name.of(text) == shelved.name.of(text) {
-            return Some(i);
-        }
-    }
-    None
+    shelf.iter().position(|shelved| name == shelved.name)
 }
 
 // The first symbol of a name among all of them, read again from the text.
-fn find_in_text(text: &[u8], declared: Declared, name: Name) -> Option<Known>
-    requires { NameWithin text.now declared.sort × NameWithin text.now name }
-    ensures { KnownIn (take declared.count (declared_in (name_of text.now declared.sort) (plain_at text.now 0))) (name_of text.now name) result }
+fn find_in_text(text: &[u8], declared: Declared<'_>, name: &[u8]) -> Option<Known>
+    ensures { let d = declared.entry in KnownIn (take d.count (declared_in d.sort.now (plain_at text.now 0))) name.now result }
 {
     let mut at = 0;
     for number in 0..declared.count {
@@ -74,14 +65,13 @@ fn find_in_text(text: &[u8], declared: Declared, name: Name) -> Option<Known>
     None
 }
 
-impl Signature<'_> {
+impl Signature<'_, '_> {
     // The symbol of a name.
-    pub fn find(self, name: Name) -> Option<Known>
-        requires { NameWithin self.text.now name }
-        ensures { let g = self.entry in Finds g.text.now g.shelf.now g.declared (name_of g.text.now name) result }
+    pub fn find(self, name: &[u8]) -> Option<Known>
+        ensures { let g = self.entry in Finds g.text.now g.shelf.now g.declared name.now result }
     {
         let held = self.declared.count.min(self.shelf.len());
-        match on_shelf(self.text, &self.shelf[..held], name) {
+        match on_shelf(&self.shelf[..held], name) {
             Some(number) => Some(Known {
                 number,
                 byte: self.shelf[number].byte,
@@ -92,17 +82,16 @@ impl Signature<'_> {
     }
 
     // A name may be declared.
-    pub fn free(self, name: Name) -> bool
-        requires { NameWithin self.text.now name }
-        ensures { let g = self.entry in Frees g.text.now g.shelf.now g.declared (name_of g.text.now name) result }
+    pub fn free(self, name: &[u8]) -> bool
+        ensures { let g = self.entry in Frees g.text.now g.shelf.now g.declared name.now result }
     {
-        if core(name.of(self.text)).is_some() {
+        if core(name).is_some() {
             return false;
         }
         if self.find(name).is_some() {
             return false;
         }
-        !solvers_own(name.of(self.text))
+        !solvers_own(name)
     }
 }
 

@@ -1,6 +1,6 @@
 // Tokens that must come.
 ghost use Rattle.std.specs.Prelude.{◌≡◌, ◌≤◌, length};
-ghost use Rattle.terms.specs.Lexing.{LexemeFits, lexeme_read};
+ghost use Rattle.terms.specs.Lexing.{lexeme_read};
 ghost use Rattle.terms.specs.Reading.{Exactly, due_read, is_token, StepWithin, Passes};
 
 use crate::tokens::{Lexeme, next};
@@ -31,16 +31,15 @@ pub enum Due<'a> {
 }
 
 #[tactic(auto, using(crate::proofs::SameLaws::names))]
-fn is_due(text: &[u8], lexeme: Lexeme, due: Due<'_>) -> bool
-    requires { LexemeFits text.now lexeme }
-    ensures { result ≡ is_token (due_read due.entry) (lexeme_read text.now lexeme) }
+fn is_due(lexeme: Lexeme<'_>, due: Due<'_>) -> bool
+    ensures { result ≡ is_token (due_read due.entry) (lexeme_read lexeme.entry) }
 {
     match (due, lexeme) {
         (Due::Opening, Lexeme::Opening) => true,
         (Due::Closing, Lexeme::Closing) => true,
         (Due::Nought, Lexeme::Nought) => true,
-        (Due::Word(name), Lexeme::Word(found)) => name == found.of(text),
-        (Due::Symbol(name), Lexeme::Symbol(found)) => name == found.of(text),
+        (Due::Word(name), Lexeme::Word(found)) => name == found,
+        (Due::Symbol(name), Lexeme::Symbol(found)) => name == found,
         _ => false,
     }
 }
@@ -51,7 +50,7 @@ pub fn exact(text: &[u8], at: usize, due: Due<'_>) -> Result<usize, WrongToken>
     ensures { Exactly text.now at (due_read due.entry) result × StepWithin text.now result }
 {
     let token = next(text, at);
-    if is_due(text, token.lexeme, due) {
+    if is_due(token.lexeme, due) {
         Ok(token.next)
     } else {
         Err(WrongToken(token.place))

@@ -1,13 +1,12 @@
 // A declared function: its name, its rank, and the closing bracket.
 ghost use Rattle.std.specs.Prelude.{◌≤◌, length};
-ghost use Rattle.terms.specs.Lexing.{NameWithin, name_of};
 ghost use Rattle.terms.specs.Functions.{ReadsName, ReadsRank, ReadsFunction};
 
 use crate::declared::Signature;
 use crate::exact::{Due, WrongToken, exact};
 use crate::prologue::Named;
 use crate::ranks::{byte_of, read_arity, read_result};
-use crate::tokens::{Lexeme, Name, next};
+use crate::tokens::{Lexeme, next};
 
 // A symbol's byte, and the offset behind its declaration.
 #[derive(Clone, Copy)]
@@ -18,14 +17,14 @@ pub struct Ranked {
 
 // A declared symbol: its name, its byte and the offset behind its declaration.
 #[derive(Clone, Copy)]
-pub struct Function {
-    pub name: Name,
+pub struct Function<'a> {
+    pub name: &'a [u8],
     pub byte: usize,
     pub at: usize,
 }
 
 // The name, and the bracket that opens its arguments.
-fn function_name(signature: Signature<'_>, at: usize) -> Result<Named, WrongToken>
+fn function_name<'a>(signature: Signature<'a, '_>, at: usize) -> Result<Named<'a>, WrongToken>
     requires { at ≤ length signature.text.now }
     ensures { let g = signature.entry in ReadsName g.text.now g.shelf.now g.declared at result }
 {
@@ -42,9 +41,9 @@ fn function_name(signature: Signature<'_>, at: usize) -> Result<Named, WrongToke
 }
 
 // The result after so many arguments, and the bracket that closes the declaration.
-fn rank_of(text: &[u8], at: usize, sort: Name, arity: usize) -> Result<Ranked, WrongToken>
-    requires { (at ≤ length text.now) × NameWithin text.now sort × (arity ≤ 3) }
-    ensures { ReadsRank text.now at (name_of text.now sort) arity result }
+fn rank_of(text: &[u8], at: usize, sort: &[u8], arity: usize) -> Result<Ranked, WrongToken>
+    requires { (at ≤ length text.now) × (arity ≤ 3) }
+    ensures { ReadsRank text.now at sort.now arity result }
 {
     let given = read_result(text, at, sort)?;
     let closed = exact(text, given.at, Due::Closing)?;
@@ -55,7 +54,10 @@ fn rank_of(text: &[u8], at: usize, sort: Name, arity: usize) -> Result<Ranked, W
 }
 
 // What stands after declare-fun.
-pub fn read_function(signature: Signature<'_>, at: usize) -> Result<Function, WrongToken>
+pub fn read_function<'a>(
+    signature: Signature<'a, '_>,
+    at: usize,
+) -> Result<Function<'a>, WrongToken>
     requires { at ≤ length signature.text.now }
     ensures { let g = signature.entry in ReadsFunction g.text.now g.shelf.now g.declared at result }
 {

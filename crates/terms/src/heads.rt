@@ -1,13 +1,11 @@
 // Which head a name gives, where a term of a sort is wanted; and what arguments a head wants.
 ghost use Rattle.std.specs.Prelude.{◌≡◌, ◌<◌};
 ghost use Rattle.definitions.specs.Text.Tokens.{symbol};
-ghost use Rattle.terms.specs.Lexing.{name_of, NameWithin};
 ghost use Rattle.terms.specs.Symbols.{KnownSmall};
 ghost use Rattle.problem.specs.Wanted.{sort_read, wanted_read};
 ghost use Rattle.terms.specs.Heads.{ArityIn, CoreAt, KnownAt, named_at, Heads, least_of, Readies, wanted_below, Wants};
 
 use crate::declared::{Known, Signature};
-use crate::tokens::Name;
 use crate::words::core;
 use problem::ops::Sort;
 
@@ -86,12 +84,11 @@ fn known_head(known: Option<Known>, sort: Sort, place: Place, inhabited: bool) -
 }
 
 // The head that a name gives at a place: one of Core's, or a declared symbol.
-pub fn head_of(signature: Signature<'_>, name: Name, sort: Sort, place: Place) -> Option<Head>
-    requires { NameWithin signature.text.now name }
-    ensures { let g = signature.entry in Heads (λ sig. named_at place sig (sort_read sort) (symbol (name_of g.text.now name))) g.text.now g.shelf.now g.declared result }
+pub fn head_of(signature: Signature<'_, '_>, name: &[u8], sort: Sort, place: Place) -> Option<Head>
+    ensures { let g = signature.entry in Heads (λ sig. named_at place sig (sort_read sort) (symbol name.now)) g.text.now g.shelf.now g.declared result }
 {
     let inhabited = signature.declared.inhabited;
-    match core(name.of(signature.text)) {
+    match core(name) {
         Some(k) => core_head(k, sort, place, inhabited),
         None => known_head(signature.find(name), sort, place, inhabited),
     }

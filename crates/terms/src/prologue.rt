@@ -7,12 +7,12 @@ ghost use Rattle.terms.specs.Commands.{SortNamed, Begun};
 
 use crate::declared::solvers_own;
 use crate::exact::{Due, WrongToken, exact_all};
-use crate::tokens::{Lexeme, Name, next};
+use crate::tokens::{Lexeme, next};
 
 // A name, and the offset behind it.
 #[derive(Clone, Copy)]
-pub struct Named {
-    pub name: Name,
+pub struct Named<'a> {
+    pub name: &'a [u8],
     pub at: usize,
 }
 
@@ -37,7 +37,7 @@ fn sort_free(name: &[u8]) -> bool
     name != b"Bool".as_slice() && !solvers_own(name)
 }
 
-fn sort_name(text: &[u8], at: usize) -> Result<Named, WrongToken>
+fn sort_name(text: &[u8], at: usize) -> Result<Named<'_>, WrongToken>
     requires { Reached text.now (goes start naming) at × (at ≤ length text.now) }
     ensures { SortNamed text.now result }
 {
@@ -45,7 +45,7 @@ fn sort_name(text: &[u8], at: usize) -> Result<Named, WrongToken>
     let Lexeme::Symbol(name) = token.lexeme else {
         return Err(WrongToken(token.place));
     };
-    if !sort_free(name.of(text)) {
+    if !sort_free(name) {
         return Err(WrongToken(token.place));
     }
     Ok(Named {
@@ -54,7 +54,7 @@ fn sort_name(text: &[u8], at: usize) -> Result<Named, WrongToken>
     })
 }
 
-pub fn prologue(text: &[u8]) -> Result<Named, WrongToken>
+pub fn prologue(text: &[u8]) -> Result<Named<'_>, WrongToken>
     ensures { Begun text.now result }
 {
     let begun = header(text)?;

@@ -2,12 +2,11 @@
 ghost use Rattle.std.specs.Prelude.{◌≡◌, ◌≤◌, length};
 ghost use Rattle.definitions.specs.Text.Nodes.{byte_of};
 ghost use Rattle.problem.specs.Wanted.{sort_read};
-ghost use Rattle.terms.specs.Lexing.{NameWithin, name_of, LexemeFits};
 ghost use Rattle.terms.specs.Ranks.{PartIs, ReadsArity, ReadsResult};
 
 use crate::declarations::Counted;
 use crate::exact::{Due, WrongToken, exact};
-use crate::tokens::{Lexeme, Name, next};
+use crate::tokens::{Lexeme, next};
 use problem::ops::Sort;
 
 // A token where a sort may stand.
@@ -38,27 +37,26 @@ pub fn byte_of(arity: usize, given: Sort) -> usize
 }
 
 #[tactic(auto, using(crate::proofs::SameLaws::names))]
-fn part_of(text: &[u8], lexeme: Lexeme, sort: Name) -> Part
-    requires { LexemeFits text.now lexeme × NameWithin text.now sort }
-    ensures { PartIs text.now lexeme (name_of text.now sort) result }
+fn part_of(lexeme: Lexeme<'_>, sort: &[u8]) -> Part
+    ensures { PartIs lexeme.entry sort.now result }
 {
     match lexeme {
         Lexeme::Closing => Part::Closing,
-        Lexeme::Symbol(name) if name.of(text) == sort.of(text) => Part::Sort,
-        Lexeme::Symbol(name) if name.of(text) == b"Bool".as_slice() => Part::Bool,
+        Lexeme::Symbol(name) if name == sort => Part::Sort,
+        Lexeme::Symbol(name) if name == b"Bool".as_slice() => Part::Bool,
         _ => Part::Other,
     }
 }
 
 // The arguments after their opening bracket; after three only the closing bracket will do.
-pub fn read_arity(text: &[u8], from: usize, sort: Name) -> Result<Counted, WrongToken>
-    requires { (from ≤ length text.now) × NameWithin text.now sort }
-    ensures { ReadsArity text.now from (name_of text.now sort) result }
+pub fn read_arity(text: &[u8], from: usize, sort: &[u8]) -> Result<Counted, WrongToken>
+    requires { from ≤ length text.now }
+    ensures { ReadsArity text.now from sort.now result }
 {
     let mut at = from;
     for arity in 0..3 {
         let token = next(text, at);
-        match part_of(text, token.lexeme, sort) {
+        match part_of(token.lexeme, sort) {
             Part::Closing => {
                 return Ok(Counted {
                     arity,
@@ -76,12 +74,12 @@ pub fn read_arity(text: &[u8], from: usize, sort: Name) -> Result<Counted, Wrong
     })
 }
 
-pub fn read_result(text: &[u8], at: usize, sort: Name) -> Result<Given, WrongToken>
-    requires { (at ≤ length text.now) × NameWithin text.now sort }
-    ensures { ReadsResult text.now at (name_of text.now sort) result }
+pub fn read_result(text: &[u8], at: usize, sort: &[u8]) -> Result<Given, WrongToken>
+    requires { at ≤ length text.now }
+    ensures { ReadsResult text.now at sort.now result }
 {
     let token = next(text, at);
-    match part_of(text, token.lexeme, sort) {
+    match part_of(token.lexeme, sort) {
         Part::Sort => Ok(Given {
             result: Sort::Term,
             at: token.next,

@@ -1,6 +1,6 @@
 // Terms: each is read and laid, and calls itself on its sub-terms with the remaining depth falling.
-ghost use Rattle.std.specs.Prelude.{◌≤◌};
-ghost use Rattle.terms.specs.Terms.{TermAsked, ReadsBare, ReadsTerm};
+ghost use Rattle.std.specs.Prelude.{◌≤◌, length};
+ghost use Rattle.terms.specs.Terms.{ReadsBare, ReadsTerm};
 
 use crate::arguments::{follows, head_at};
 use crate::declared::Signature;
@@ -20,13 +20,13 @@ pub struct Term {
 
 // A term with no bracket.
 fn bare_term(
-    signature: Signature<'_>,
-    token: Token,
+    signature: Signature<'_, '_>,
+    token: Token<'_>,
     sort: Sort,
     table: &mut Table,
 ) -> Result<Term, Refusal>
-    requires { TermAsked signature.text.now token }
-    ensures { let g = signature.entry in ReadsBare g.text.now g.shelf.now g.declared token sort table.old result table.new }
+    requires { token.next ≤ length signature.text.now }
+    ensures { let g = signature.entry in ReadsBare g.text.now g.shelf.now g.declared token.entry sort table.old result table.new }
 {
     let wrong = Refusal::WrongToken(token.place);
     let Lexeme::Symbol(name) = token.lexeme else {
@@ -43,14 +43,14 @@ fn bare_term(
 
 // The term that begins with a token, where so many levels are left.
 pub fn read_term(
-    signature: Signature<'_>,
-    token: Token,
+    signature: Signature<'_, '_>,
+    token: Token<'_>,
     sort: Sort,
     levels: usize,
     table: &mut Table,
 ) -> Result<Term, Refusal>
-    requires { TermAsked signature.text.now token × (levels ≤ 64) }
-    ensures { let g = signature.entry in ReadsTerm g.text.now g.shelf.now g.declared token sort levels table.old result table.new }
+    requires { (token.next ≤ length signature.text.now) × (levels ≤ 64) }
+    ensures { let g = signature.entry in ReadsTerm g.text.now g.shelf.now g.declared token.entry sort levels table.old result table.new }
 {
     let text = signature.text;
     let Lexeme::Opening = token.lexeme else {
@@ -65,6 +65,7 @@ pub fn read_term(
     };
     let mut listing = Listing::new();
     let mut following = next(text, named.next);
+    // No `for`: a list ends where the text ends it.
     while let Some(wanted) = follows(head, listing.seen(), following)? {
         listing.prepare(head, table);
         let argument = read_term(signature, following, wanted, levels - 1, table)?;

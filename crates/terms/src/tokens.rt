@@ -1,43 +1,27 @@
 // From the bytes of a text to its tokens, one at a time (02, E1; docs/TEXT.md, 'Tokens').
 ghost use Rattle.std.specs.Prelude.{◌≡◌, ◌<◌, ◌≤◌, true, length, get_or, drop};
 ghost use Rattle.definitions.specs.Text.Tokens.{word_byte, run};
-ghost use Rattle.terms.specs.Lexing.{BlankTo, RunsTo, BarredTo, numeral_read, bracket_read, TokenIs, Lexed, NameWithin, name_of};
+ghost use Rattle.terms.specs.Lexing.{BlankTo, RunsTo, BarredTo, numeral_read, bracket_read, TokenIs, Lexed};
 
 use crate::bytes::{bar_byte, is_digit, line_break, white, word_byte};
 use crate::words::reserved;
 
-// A name's bytes, bars left out, by their offsets in the text.
+// A symbol and a word hold their name's bytes in the text, bars left out.
 #[derive(Clone, Copy, PartialEq, Eq)]
-pub struct Name {
-    pub from: usize,
-    pub to: usize,
-}
-
-impl Name {
-    // The bytes of the name in its text.
-    pub fn of(self, text: &[u8]) -> &[u8]
-        requires { NameWithin text.now self }
-        ensures { result.now ≡ name_of text.now self }
-    {
-        &text[self.from..self.to]
-    }
-}
-
-#[derive(Clone, Copy, PartialEq, Eq)]
-pub enum Lexeme {
+pub enum Lexeme<'a> {
     End,
     Opening,
     Closing,
     Nought,
     Wrong,
-    Symbol(Name),
-    Word(Name),
+    Symbol(&'a [u8]),
+    Word(&'a [u8]),
 }
 
 // A token, the place of its first byte and the offset after its last one. At the end of the text both are its length.
 #[derive(Clone, Copy)]
-pub struct Token {
-    pub lexeme: Lexeme,
+pub struct Token<'a> {
+    pub lexeme: Lexeme<'a>,
     pub place: usize,
     pub next: usize,
 }
@@ -92,18 +76,15 @@ fn bar_end(text: &[u8], from: usize) -> Option<usize>
 }
 
 // A word: a numeral is a token only if it is exactly 0, and a reserved word is no symbol.
-fn word_token(text: &[u8], place: usize) -> Token
+fn word_token(text: &[u8], place: usize) -> Token<'_>
     requires { (place < length text.now) × (word_byte (get_or text.now place 0) ≡ true) }
     ensures { TokenIs text.now place result }
 {
     let next = word_end(text, place);
-    let name = Name {
-        from: place,
-        to: next,
-    };
+    let name = &text[place..next];
     let lexeme = if is_digit(text[place]) {
-        numeral(name.of(text))
-    } else if reserved(name.of(text)) {
+        numeral(name)
+    } else if reserved(name) {
         Lexeme::Word(name)
     } else {
         Lexeme::Symbol(name)
@@ -116,7 +97,7 @@ fn word_token(text: &[u8], place: usize) -> Token
 }
 
 #[tactic(auto, using(crate::proofs::SameLaws::names))]
-fn numeral(digits: &[u8]) -> Lexeme
+fn numeral(digits: &[u8]) -> Lexeme<'static>
     ensures { result ≡ numeral_read digits.now }
 {
     if digits == b"0".as_slice() {
@@ -127,14 +108,14 @@ fn numeral(digits: &[u8]) -> Lexeme
 }
 
 // A symbol in bars; bars that are not closed, or hold another byte, are refused at the opening bar.
-fn bar_token(text: &[u8], place: usize) -> Token
+fn bar_token(text: &[u8], place: usize) -> Token<'_>
     requires { (place < length text.now) × (get_or text.now place 0 ≡ 124) }
     ensures { TokenIs text.now place result }
 {
     let from = place + 1;
     match bar_end(text, from) {
         Some(to) => Token {
-            lexeme: Lexeme::Symbol(Name { from, to }),
+            lexeme: Lexeme::Symbol(&text[from..to]),
             place,
             next: to + 1,
         },
@@ -147,7 +128,7 @@ fn bar_token(text: &[u8], place: usize) -> Token
 }
 
 // The token of one byte; any other byte starts none.
-fn byte_token(b: u8) -> Lexeme
+fn byte_token(b: u8) -> Lexeme<'static>
     ensures { result ≡ bracket_read b }
 {
     match b {
@@ -158,7 +139,7 @@ fn byte_token(b: u8) -> Lexeme
 }
 
 // The first token from an offset on.
-pub fn next(text: &[u8], at: usize) -> Token
+pub fn next(text: &[u8], at: usize) -> Token<'_>
     requires { at ≤ length text.now }
     ensures { Lexed text.now at result }
 {

@@ -18,7 +18,7 @@ use Rattle.definitions.specs.Text.Reader.{put}
 use Rattle.theorems.specs.Origins.{NoTwins}
 use Rattle.theorems.proofs.Laws.Tests.{split}
 use Rattle.theorems.proofs.Text.Meant.Shared.{Earlier}
-use Rattle.terms.specs.Lexing.{name_of, lexeme_read, Lexed}
+use Rattle.terms.specs.Lexing.{lexeme_read, Lexed}
 use Rattle.terms.specs.Reading.{Reached, WrongAt, is_token, Exactly}
 use Rattle.terms.specs.Symbols.{Symbols, Shelves, DeclaredSound, at_command, symbol_byte}
 use Rattle.terms.specs.Laying.{over, standing}
@@ -58,7 +58,7 @@ with_table s u = record { declared = s.declared; symbols = s.symbols; table = u;
 
 module _ {text : List ℕ} {shelf : List Shelved} {s : Script} {at : ℕ} (inside : Inside in_asserting text shelf s at) where
   abbrev sn : List ℕ
-  sn = name_of text s.declared.sort
+  sn = s.declared.sort.now
 
   abbrev cs : List Command
   cs = inside.commands
@@ -77,7 +77,7 @@ module _ {text : List ℕ} {shelf : List Shelved} {s : Script} {at : ℕ} (insid
       }
 
   -- a formula is wanted
-  pub formula_wanted : (t : Token) → Lexed text at t → is_token closing (lexeme_read text t.lexeme) ≡ false
+  pub formula_wanted : (t : Token) → Lexed text at t → is_token closing (lexeme_read t.lexeme) ≡ false
       → TermWanted text sn cs shelf s.declared one_formula end [] at t Sort.Formula 64 s.table
   formula_wanted t lexed e =
       record {
@@ -93,10 +93,10 @@ module _ {text : List ℕ} {shelf : List Shelved} {s : Script} {at : ℕ} (insid
   module _ {behind number : ℕ} {u : Option (List table.Node)} (read : TermRead text sn cs one_formula end [] Sort.Formula s.table behind number u)
       (t : Token) (lexed : Lexed text behind t) where
     -- nothing but a closing bracket may follow
-    one_term : is_token closing (lexeme_read text t.lexeme) ≡ false → WrongAt text t.place
+    one_term : is_token closing (lexeme_read t.lexeme) ≡ false → WrongAt text t.place
     one_term e = none_wanted_lem text sn cs (left one_formula) (put end read.head read.args) [] behind read.reached t lexed refl e
 
-    module _ (e : lexeme_read text t.lexeme ≡ some closing) where
+    module _ (e : lexeme_read t.lexeme ≡ some closing) where
       abbrev more : Command
       more = assert (put end read.head read.args)
 
@@ -111,7 +111,7 @@ module _ {text : List ℕ} {shelf : List Shelved} {s : Script} {at : ℕ} (insid
 
       symbols_later : Symbols text sn later shelf (moved_to s.declared t.next)
       symbols_later =
-          let shelved = subst (λ (sig : List Symbol). Shelves text sig shelf s.declared) (sym (symbols_assert cs (put end read.head read.args))) so.symbols_so.shelved in
+          let shelved = subst (λ (sig : List Symbol). Shelves sig shelf s.declared) (sym (symbols_assert cs (put end read.head read.args))) so.symbols_so.shelved in
           record {
             sort_is_lem = refl;
             shelved = record { counted = shelved.counted; named = shelved.named; typed = shelved.typed; inhabits = shelved.inhabits };
@@ -164,7 +164,7 @@ module _ {text : List ℕ} {shelf : List Shelved} {s : Script} {at : ℕ} (insid
         declared_later : DeclaredSound text shelf (moved_to s.declared t.next)
         declared_later =
             let d = inside.sound.declared_sound in
-            record { sound = d.sound; command_inside = lexed.inside; sort_inside = d.sort_inside }
+            record { sound = d.sound; command_inside = lexed.inside }
 
         full_so : 256 ≤ length s.roots → Scripted text shelf full_script
         full_so p =

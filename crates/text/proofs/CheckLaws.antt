@@ -33,7 +33,7 @@ module _ (text sn : List ℕ) (cs : List Command) (at : ℕ) where
 
   module _ (r : Reached text (in_finished sn cs) at) (t : Token) (l : Lexed text at t) where
     pub nothing_follows : t.lexeme ≡ Lexeme.End → script_read text ≡ given (record { sort_name = sn; commands = cs })
-    nothing_follows e = finishes text (in_finished sn cs) at r t l (ap (lexeme_read text) e) refl
+    nothing_follows e = finishes text (in_finished sn cs) at r t l (ap lexeme_read e) refl
 
     pub something_follows : (t.lexeme ≡ Lexeme.End → ⊥) → WrongAt text t.place
-    something_follows h = let (x, e) = some_token text t.lexeme h in stuck text (in_finished sn cs) at r t l x e (none_taken sn cs x)
+    something_follows h = let (x, e) = some_token t.lexeme h in stuck text (in_finished sn cs) at r t l x e (none_taken sn cs x)

@@ -9,6 +9,7 @@ use mathlib.Core.Option as maths
 use lib.Dec.{eqb}
 use lib.Pointwise.{pointwise}
 use Rattle.std.specs.Prelude.{Option, None, Some, Result}
+use Rattle.std.specs.Borrow.{Bor}
 use Rattle.definitions.specs.Text.Ascii.{ascii, same_bytes}
 use Rattle.definitions.specs.Text.Tokens.{opening, word, same_token}
 use Rattle.definitions.specs.Text.Tokens as tokens
@@ -22,7 +23,6 @@ use Rattle.terms.specs.Functions.{in_declaring}
 use Rattle.terms.specs.Terms.{in_list}
 use Rattle.terms.specs.declared.exact.WrongToken.{WrongToken}
 use Rattle.terms.specs.declared.tokens.Token.{Token}
-use Rattle.terms.specs.declared.tokens.Name.{Name}
 use Rattle.terms.specs.declared.tokens.Lexeme.{Lexeme}
 use Rattle.terms.proofs.ReachLaws.{stepped, moves, stuck, wrong_here, exactly_on}
 use Rattle.terms.proofs.SameLaws.{equal_same}
@@ -64,14 +64,14 @@ none_of_them name e f g =
     ∙ ap (λ (z : Bool). word_command false false z) (sym (equal_same name (ascii "check-sat")) ∙ g))
 
 -- a lexeme that is no word
-not_word : (text : List ℕ) (l : Lexeme) → ((n : Name) → l ≡ Lexeme.Word n → ⊥) → (name : List ℕ) → is_token (word name) (lexeme_read text l) ≡ false
-not_word text Lexeme.End h name = refl
-not_word text Lexeme.Opening h name = refl
-not_word text Lexeme.Closing h name = refl
-not_word text Lexeme.Nought h name = refl
-not_word text Lexeme.Wrong h name = refl
-not_word text (Lexeme.Symbol n) h name = refl
-not_word text (Lexeme.Word n) h name = absurd (h n refl)
+not_word : (l : Lexeme) → ((n : Bor (List ℕ)) → l ≡ Lexeme.Word n → ⊥) → (name : List ℕ) → is_token (word name) (lexeme_read l) ≡ false
+not_word Lexeme.End h name = refl
+not_word Lexeme.Opening h name = refl
+not_word Lexeme.Closing h name = refl
+not_word Lexeme.Nought h name = refl
+not_word Lexeme.Wrong h name = refl
+not_word (Lexeme.Symbol n) h name = refl
+not_word (Lexeme.Word n) h name = absurd (h n refl)
 
 module _ (text sn : List ℕ) (cs : List grammar.Command) (at : ℕ) (r : Reached text (in_command sn cs) at) (t : Token) (l : Lexed text at t) where
   -- the command of a word is read, or the word is wrong
@@ -87,7 +87,7 @@ module _ (text sn : List ℕ) (cs : List grammar.Command) (at : ℕ) (r : Reache
       ∙ ap (λ (z : Bool). word_state sn cs a z (same_token x (word (ascii "check-sat")))) f
       ∙ ap (λ (z : Bool). word_state sn cs a b z) g
 
-  pub word_read : (name : List ℕ) → lexeme_read text t.lexeme ≡ some (word name) → Chosen (command_of name)
+  pub word_read : (name : List ℕ) → lexeme_read t.lexeme ≡ some (word name) → Chosen (command_of name)
   word_read name e =
       go (same_bytes name (ascii "declare-fun")) (same_bytes name (ascii "assert")) (same_bytes name (ascii "check-sat")) (word_by_lem (word name) refl refl refl)
     where
@@ -98,8 +98,8 @@ module _ (text sn : List ℕ) (cs : List grammar.Command) (at : ℕ) (r : Reache
       go false false false s = stuck text (in_command sn cs) at r t l (word name) e s
 
   -- any other token is wrong
-  pub no_command : ((n : Name) → t.lexeme ≡ Lexeme.Word n → ⊥) → WrongAt text t.place
-  no_command h = wrong_here text (in_command sn cs) at r t l (go (lexeme_read text t.lexeme) (not_word text t.lexeme h)) refl
+  pub no_command : ((n : Bor (List ℕ)) → t.lexeme ≡ Lexeme.Word n → ⊥) → WrongAt text t.place
+  no_command h = wrong_here text (in_command sn cs) at r t l (go (lexeme_read t.lexeme) (not_word t.lexeme h)) refl
     where
       go : (o : maths.Option tokens.Token) → ((name : List ℕ) → is_token (word name) o ≡ false) → stepped (in_command sn cs) o ≡ none
       go none q = refl

@@ -48,7 +48,6 @@ use Rattle.asked.specs.Asking.{Counted}
 use Rattle.theorems.proofs.Tables.Back.{nodes_read, problem_length}
 use Rattle.theorems.proofs.Text.Taken.Exactly.{read_means}
 use Rattle.theorems.proofs.Text.Meant.Bytes.{low}
-use Rattle.terms.specs.Lexing.{name_of}
 use Rattle.terms.specs.Symbols.{symbol_byte}
 use Rattle.terms.specs.declared.declared.Shelved.{Shelved}
 use Rattle.terms.specs.Laying.{over, standing, appended, Performs}
@@ -249,7 +248,7 @@ module _ (text problem : List ℕ) (shelf : List Shelved) (script : scripts.Scri
   joins = joined_roots script.roots
 
   abbrev whole_script : Script
-  whole_script = record { sort_name = name_of text script.declared.sort; commands = out.scripted.commands }
+  whole_script = record { sort_name = script.declared.sort.now; commands = out.scripted.commands }
 
   right : script_right whole_script ≡ true
   right = ((read_means text whole_script).0 out.whole).right

@@ -27,9 +27,8 @@ first_scripted r shelf =
     record {
       sound = record {
         declared_sound = record {
-          sound = record { inside = λ i o. absurd (omega (arith, o.0)); small = λ i o. absurd (omega (arith, o.0)) };
+          sound = λ i o. absurd (omega (arith, o.0));
           command_inside = r.inside;
-          sort_inside = r.named;
         };
         count_few = omega arith;
       };

@@ -16,7 +16,6 @@ use Rattle.definitions.specs.Text.Grammar.{Symbol, Command, declare, no_symbol, 
 use Rattle.definitions.specs.Text.Heads.{constant, inhabited}
 use Rattle.definitions.specs.Text.Nodes.{Tree, byte_of, lay_all}
 use Rattle.theorems.proofs.Laws.Tests.{split}
-use Rattle.terms.specs.Lexing.{name_of, NameWithin}
 use Rattle.terms.specs.Symbols as symbols
 use Rattle.terms.specs.Symbols.{symbol_byte, place_on, OnShelf, ShelfSound, Symbols, DeclaredSound}
 use Rattle.terms.specs.Functions.{in_declaring, FunctionRead}
@@ -56,30 +55,21 @@ module _ (shelf : List Shelved) (count : ℕ) (f : Function) (shelf' : List Shel
       last p = record { last = p; there = ap (place_on shelf') p ∙ placed.there (omega (arith, placed.long)) }
 
   -- the shelf is sound
-  shelf_more : (text : List ℕ) → NameWithin text f.name → f.byte < 20 → ShelfSound text shelf count → ShelfSound text shelf' (count + 1)
-  shelf_more text within small sound =
-      record {
-        inside = λ i on.
-            ⊎_elim
-            (λ o. subst (λ (p : Shelved). NameWithin text p.name) (sym o.same) (sound.inside i o.on))
-            (λ o. subst (λ (p : Shelved). NameWithin text p.name) (sym o.there) within)
-            (places i on);
-        small = λ i on.
-            ⊎_elim
-            (λ o. subst (λ (p : Shelved). p.byte < 20) (sym o.same) (sound.small i o.on))
-            (λ o. subst (λ (p : Shelved). p.byte < 20) (sym o.there) small)
-            (places i on);
-      }
+  shelf_more : f.byte < 20 → ShelfSound shelf count → ShelfSound shelf' (count + 1)
+  shelf_more small sound i on =
+      ⊎_elim
+      (λ o. subst (λ (p : Shelved). p.byte < 20) (sym o.same) (sound i o.on))
+      (λ o. subst (λ (p : Shelved). p.byte < 20) (sym o.there) small)
+      (places i on)
 
-module _ {text : List ℕ} {shelf : List Shelved} {s : Script} {at : ℕ} (inside : Inside in_declaring text shelf s at) {f : Function} (named : NameWithin text f.name)
-    (small : f.byte < 20) (within : f.at ≤ length text) (later : at ≤ f.at)
-    (read : FunctionRead text (name_of text s.declared.sort) inside.commands (name_of text f.name) f.byte f.at)
+module _ {text : List ℕ} {shelf : List Shelved} {s : Script} {at : ℕ} (inside : Inside in_declaring text shelf s at) {f : Function} (small : f.byte < 20) (within : f.at ≤ length text) (later : at ≤ f.at)
+    (read : FunctionRead text s.declared.sort.now inside.commands f.name.now f.byte f.at)
     {shelf' : List Shelved} {s' : Script} (shelves : Shelves shelf s f shelf' s') where
   abbrev count : ℕ
   count = s.declared.count
 
   abbrev sn : List ℕ
-  sn = name_of text s.declared.sort
+  sn = s.declared.sort.now
 
   abbrev cs : List Command
   cs = inside.commands
@@ -96,7 +86,7 @@ module _ {text : List ℕ} {shelf : List Shelved} {s : Script} {at : ℕ} (insid
   abbrev d : Declared
   d = declared_more s.declared f
 
-  shelved : symbols.Shelves text sig shelf s.declared
+  shelved : symbols.Shelves sig shelf s.declared
   shelved = inside.so.symbols_so.shelved
 
   -- the symbols before, and the last
@@ -111,14 +101,14 @@ module _ {text : List ℕ} {shelf : List Shelved} {s : Script} {at : ℕ} (insid
       ap₂ (λ (a b : Bool). a || b) shelved.inhabits (ap (λ (b : ℕ). eqb b 0) read.byte_is ∙ constant_byte y.arity y.result)
       ∙ sym (inhabited_snoc sig y)
 
-  shelved_more : symbols.Shelves text (snoc sig y) shelf' d
+  shelved_more : symbols.Shelves (snoc sig y) shelf' d
   shelved_more =
       record {
         counted = omega (arith, shelved.counted, length-append sig (y ∷ []));
         named = λ i on.
             ⊎_elim
-            (λ o. ap (λ (p : Shelved). name_of text p.name) o.same ∙ shelved.named i o.on ∙ ap (λ (z : Symbol). z.name) (sym (symbol_before i o.on.0)))
-            (λ o. ap (λ (p : Shelved). name_of text p.name) o.there ∙ read.name_is ∙ ap (λ (z : Symbol). z.name) (sym (symbol_last i o.last)))
+            (λ o. ap (λ (p : Shelved). p.name.now) o.same ∙ shelved.named i o.on ∙ ap (λ (z : Symbol). z.name) (sym (symbol_before i o.on.0)))
+            (λ o. ap (λ (p : Shelved). p.name.now) o.there ∙ read.name_is ∙ ap (λ (z : Symbol). z.name) (sym (symbol_last i o.last)))
             (places shelf count f shelf' shelves.placed i on);
         typed = λ i on.
             ⊎_elim
@@ -132,14 +122,14 @@ module _ {text : List ℕ} {shelf : List Shelved} {s : Script} {at : ℕ} (insid
   symbols_more =
       record {
         sort_is_lem = refl;
-        shelved = subst (λ (ys : List Symbol). symbols.Shelves text ys shelf' d) (sym (symbols_declare cs y)) shelved_more;
+        shelved = subst (λ (ys : List Symbol). symbols.Shelves ys shelf' d) (sym (symbols_declare cs y)) shelved_more;
         reached = read.reached;
       }
 
   declared_sound_more : DeclaredSound text shelf' d
   declared_sound_more =
       let old = inside.sound.declared_sound in
-      record { sound = shelf_more shelf count f shelf' shelves.placed text named small old.sound; command_inside = within; sort_inside = old.sort_inside }
+      record { sound = shelf_more shelf count f shelf' shelves.placed small old.sound; command_inside = within }
 
   -- the two ways of keeping
   abbrev full_script : Script

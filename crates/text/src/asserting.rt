@@ -11,7 +11,7 @@ use terms::terms::read_term;
 use terms::tokens::{Lexeme, next};
 
 // The assert's number is kept, and the next command begins at an offset. A 257th assert is too much.
-fn keep(script: &mut Script, number: u8, at: usize)
+fn keep(script: &mut Script<'_>, number: u8, at: usize)
     ensures { Keeps script.old number at script.new }
 {
     script.declared.command = at;
@@ -21,11 +21,11 @@ fn keep(script: &mut Script, number: u8, at: usize)
 }
 
 // What stands after assert.
-pub fn read_assert(
-    text: &[u8],
+pub fn read_assert<'a>(
+    text: &'a [u8],
     at: usize,
-    shelf: &[Shelved],
-    script: &mut Script,
+    shelf: &[Shelved<'a>],
+    script: &mut Script<'a>,
 ) -> Result<(), Refusal>
     requires { Inside in_asserting text.now shelf.now script.old at }
     ensures { WentOn text.now script.old.declared.command shelf.now script.new result }

@@ -1,5 +1,5 @@
 // A row of bytes that grows up to a bound.
-ghost use Rattle.std.specs.Prelude.{◌≡◌, ℕ, ◌<◌, ◌≤◌, List, [], length, take};
+ghost use Rattle.std.specs.Prelude.{◌≡◌, ℕ, ◌≤◌, List, [], length, take};
 ghost use Rattle.text.specs.Bytes.{Pushes};
 
 use std::marker::Model;

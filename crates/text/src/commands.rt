@@ -48,7 +48,7 @@ pub fn read_command(text: &[u8], at: usize) -> Result<Begun, WrongToken>
     let Lexeme::Word(name) = token.lexeme else {
         return wrong;
     };
-    match Command::of(name.of(text)) {
+    match Command::of(name) {
         Some(command) => Ok(Begun {
             command,
             at: token.next,

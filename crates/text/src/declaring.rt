@@ -9,11 +9,11 @@ use terms::declared::{Shelved, Signature};
 use terms::functions::read_function;
 
 // What stands after declare-fun.
-pub fn read_declaration(
-    text: &[u8],
+pub fn read_declaration<'a>(
+    text: &'a [u8],
     at: usize,
-    shelf: &mut [Shelved],
-    script: &mut Script,
+    shelf: &mut [Shelved<'a>],
+    script: &mut Script<'a>,
 ) -> Result<(), Refusal>
     requires { Inside in_declaring text.now shelf.old script.old at }
     ensures { WentOn text.now script.old.declared.command shelf.new script.new result }

@@ -53,7 +53,7 @@ fn deliver(problem: &mut [u8], symbols: &[u8], table: &Table) -> Result<usize, R
 
 // A text that is read out becomes a problem, or is refused by 4, 9 or 10. The one negation comes last: it is appended and not asked
 // for.
-pub fn end(problem: &mut [u8], script: &mut Script) -> Result<usize, Refusal>
+pub fn end(problem: &mut [u8], script: &mut Script<'_>) -> Result<usize, Refusal>
     requires { 2088 ≤ length problem.old }
     ensures { (text : List ℕ) (shelf : List Shelved) → ReadOut text shelf script.old → ReadPromise text problem.old result problem.new }
 {

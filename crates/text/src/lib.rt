@@ -1,7 +1,6 @@
 // Jobs in solver text: a text of the subset of SMT-LIB 2.6 that docs/TEXT.md describes becomes a problem (02, E1).
 #![tactic(auto)]
 
-ghost use Rattle.std.specs.Prelude.{◌≤◌};
 ghost use Rattle.definitions.specs.Operations.Promises.{ReadPromise};
 ghost use Rattle.text.specs.Readable.{Readable};
 
@@ -11,7 +10,6 @@ use crate::whole::read_commands;
 use definitions::Refusal;
 use terms::declared::Shelved;
 use terms::prologue::{Named, prologue};
-use terms::tokens::Name;
 
 mod asserting;
 mod bytes;
@@ -23,23 +21,29 @@ mod scripts;
 mod shelving;
 mod whole;
 
-// The commands, from the first on, where the prologue is read; N symbols find a place on the shelf.
-fn read_with<const N: usize>(
-    text: &[u8],
+// The commands, from the first on, where the prologue is read, with a shelf for the symbols.
+fn read_with<'a>(
+    text: &'a [u8],
     problem: &mut [u8],
-    named: Named,
+    named: Named<'a>,
+    shelf: &mut [Shelved<'a>],
 ) -> Result<usize, Refusal>
-    requires readable { Readable text.now problem.old named }
-    requires short { N ≤ 4096 }
+    requires { Readable text.now problem.old named }
     ensures { ReadPromise text.now problem.old result problem.new }
 {
-    let mut shelf = [Shelved {
-        name: Name { from: 0, to: 0 },
-        byte: 0,
-    }; N];
     let mut script = Script::new(named);
-    read_commands(text, &mut shelf, &mut script)?;
+    read_commands(text, shelf, &mut script)?;
     end(problem, &mut script)
+}
+
+// With a shelf of 4096 symbols, in a function of its own: a short text does not pay for so long a shelf. Not generic in the length: an
+// array of N structs that hold references gets no proof.
+fn read_long<'a>(text: &'a [u8], problem: &mut [u8], named: Named<'a>) -> Result<usize, Refusal>
+    requires { Readable text.now problem.old named }
+    ensures { ReadPromise text.now problem.old result problem.new }
+{
+    let mut shelf = [Shelved { name: b"", byte: 0 }; 4096];
+    read_with(text, problem, named, &mut shelf)
 }
 
 // A text becomes a problem, or is refused. A short text needs but a small shelf: a declaration takes at least eighteen bytes.
@@ -50,9 +54,9 @@ pub fn read(text: &[u8], problem: &mut [u8]) -> Result<usize, Refusal>
         return Err(Refusal::ShortProblem);
     }
     let named = prologue(text)?;
-    if text.len() < 4608 {
-        read_with::<256>(text, problem, named)
-    } else {
-        read_with::<4096>(text, problem, named)
+    if text.len() >= 4608 {
+        return read_long(text, problem, named);
     }
+    let mut shelf = [Shelved { name: b"", byte: 0 }; 256];
+    read_with(text, problem, named, &mut shelf)
 }

@@ -10,17 +10,17 @@ use terms::prologue::Named;
 // The declared symbols, with the offset of the next command; their bytes in the problem; the table of nodes; and the numbers of the
 // asserts' nodes.
 #[derive(Drop)]
-pub struct Script {
-    pub declared: Declared,
+pub struct Script<'a> {
+    pub declared: Declared<'a>,
     pub symbols: Bytes<32>,
     pub table: Table,
     pub roots: Bytes<256>,
 }
 
-impl Script {
+impl<'a> Script<'a> {
     // Behind the prologue: nothing is declared, nothing is laid.
-    pub fn new(named: Named) -> Self
-        ensures { result ≡ first_script named }
+    pub fn new(named: Named<'a>) -> Self
+        ensures { result ≡ first_script named.entry }
     {
         Script {
             declared: Declared {

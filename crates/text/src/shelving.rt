@@ -6,8 +6,8 @@ use terms::declared::Shelved;
 use terms::functions::Function;
 
 // The next place of the shelf, if there is one.
-fn place(shelf: &mut [Shelved], count: usize, function: Function)
-    ensures { Placed shelf.old count function shelf.new }
+fn place<'a>(shelf: &mut [Shelved<'a>], count: usize, function: Function<'a>)
+    ensures { Placed shelf.old count function.entry shelf.new }
 {
     if count < shelf.len() {
         shelf[count] = Shelved {
@@ -18,9 +18,9 @@ fn place(shelf: &mut [Shelved], count: usize, function: Function)
 }
 
 // The function is declared, and the next command begins behind it. A 33rd symbol is too much.
-pub fn shelve(shelf: &mut [Shelved], script: &mut Script, function: Function)
+pub fn shelve<'a>(shelf: &mut [Shelved<'a>], script: &mut Script<'_>, function: Function<'a>)
     requires { Shelvable script.old function }
-    ensures { Shelves shelf.old script.old function shelf.new script.new }
+    ensures { Shelves shelf.old script.old function.entry shelf.new script.new }
 {
     place(shelf, script.declared.count, function);
     script.declared.count += 1;

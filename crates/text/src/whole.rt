@@ -10,11 +10,16 @@ use crate::scripts::Script;
 use definitions::Refusal;
 use terms::declared::Shelved;
 
-// The commands, from the next one on. No `for`: where each command begins, and whether one follows, the command before it tells.
-pub fn read_commands(text: &[u8], shelf: &mut [Shelved], script: &mut Script) -> Result<(), Refusal>
+// The commands, from the next one on.
+pub fn read_commands<'a>(
+    text: &'a [u8],
+    shelf: &mut [Shelved<'a>],
+    script: &mut Script<'a>,
+) -> Result<(), Refusal>
     requires { Scripted text.now shelf.old script.old }
     ensures { WholeIs text.now shelf.new script.new result }
 {
+    // No `for`: where each command begins, and whether one follows, the command before it tells.
     loop {
         let begun = read_command(text, script.declared.command)?;
         match begun.command {

@@ -10,26 +10,25 @@ use lib.ListN.{length, get_or, take}
 use Rattle.theorems.proofs.Laws.Tests.{split}
 use Rattle.walk.specs.Cells.{AllReady, SlowLaid}
 use Rattle.walk.specs.declared.branches.Branch.{Branch}
-use Rattle.walk.specs.Digits.{Turning, SlowIs, fast_of}
+use Rattle.walk.specs.Digits.{SlowIs, fast_of}
 use Rattle.walk.specs.Keeping.{Setting, Begins}
 use Rattle.walk.specs.Laid.{LanesReady}
 use Rattle.walk.specs.Reading.{positions_in}
 use Rattle.walk.specs.declared.Begun.{Begun}
-use Rattle.walk.specs.declared.Plan.{Plan}
+use Rattle.walk.specs.declared.plan.Plan.{Plan}
 use Rattle.walk.specs.declared.odometer.Odometer.{Odometer}
 use Rattle.walk.proofs.Arranging.{ordering}
 use Rattle.walk.proofs.Branching.{all_ready}
-use Rattle.walk.proofs.Carrying.{digit_in_range}
 use Rattle.walk.proofs.Solving.{place_fits, place_small}
 use Rattle.walk.proofs.Going.{sets_out}
 use Rattle.walk.proofs.Walking.{inside, lanes_few}
 
 -- a digit and 1 more are a byte
-pub digits_small : (o : Odometer) → Turning o → (v : ℕ) → get_or o.digits v 0 + 1 < 256
-digits_small o t v =
+pub digits_small : (o : Odometer) → (v : ℕ) → get_or o.digits v 0 + 1 < 256
+digits_small o v =
     elim (split v o.count) [
-      | inl h ↦ (let a = digit_in_range o t v h in let b = t.sizes_small v in omega arith)
-      | inr h ↦ (let a = t.past v h in omega arith)
+      | inl h ↦ (let a = o.turning.within v h in let b = o.turning.sizes_small v in omega arith)
+      | inr h ↦ (let a = o.turning.past v h in omega arith)
     ]
 
 -- what has room for all cells has it for those of the digits, and for one more
@@ -65,17 +64,17 @@ module _ (plan : Plan) (positions starts : List ℕ) (bs : List Branch) (set : S
 -- the lanes of the root's cell that are looked at are among the cells, and not far on
 module _ {plan : Plan} {positions : List ℕ} {bs : List Branch} {first : List ℕ} {begun : Begun} (b : Begins plan positions bs first begun) where
   root_inside : positions_in positions plan.root < plan.table.shape.nodes
-  root_inside = inside plan positions begun.starts bs b.setting plan.root b.setting.planned.root_in.below
+  root_inside = inside plan positions begun.starts bs b.setting plan.root plan.planned.root_in.below
 
   pub root_fits : (left many : ℕ) (cells : List ℕ) → many ≡ min left plan.parts.lanes → 16 * plan.parts.chunks * (42 + plan.table.shape.nodes) ≤ length cells
       → begun.root + many ≤ length cells
   root_fits left many cells e room =
       lanes_fit (16 * plan.parts.chunks) _ plan.table.shape.nodes _ _ _ plan.parts.lanes b.root_is root_inside room (lanes_few _ _ _ e).0
-      b.setting.planned.parts_are.parted.lanes_fit
+      plan.planned.parts_are.parted.lanes_fit
 
   pub root_small : begun.root ≤ 342272
   root_small =
-      let few = b.setting.planned.parts_are.parted.chunks_few in
+      let few = plan.planned.parts_are.parted.chunks_few in
       let low = root_inside in
       let e = b.root_is in
       let u = place_small (16 * plan.parts.chunks) _ plan.table.shape.nodes (omega arith) (let v : positions_in positions plan.root ≤ plan.table.shape.nodes = omega arith in v) plan.table.well_formed.few_nodes in

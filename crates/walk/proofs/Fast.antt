@@ -13,11 +13,13 @@ use Rattle.definitions.specs.Places.{digits_after}
 use Rattle.theorems.proofs.Search.Places.{Positive, split_digits, product_positive, product_of_append}
 use Rattle.theorems.proofs.Laws.Tests.{split}
 use Rattle.walk.specs.Cells.{Filled, FastHeld, least_of}
-use Rattle.walk.specs.Digits.{Turning, Parted, sizes_in, fast_of}
+use Rattle.walk.specs.Turning.{Turning}
+use Rattle.walk.specs.Digits.{Parted, sizes_in, fast_of}
 use Rattle.walk.specs.Laid.{DigitLaid, FastLaid, LanesReady}
 use Rattle.walk.specs.declared.odometer.Odometer.{Odometer}
 use Rattle.walk.specs.declared.split.Parts.{Parts}
 use Rattle.walk.proofs.Slowing.{positive_drop}
+use Rattle.walk.proofs.Turns.{positive}
 
 positive_take : (n : ℕ) (xs : List ℕ) → Positive xs → Positive (take n xs)
 positive_take zero xs p = tt
@@ -151,12 +153,15 @@ other_run at lanes same run size least before after (inl e) d =
     }
 
 -- the sizes of the fast digits, as the code has them
-module _ (o : Odometer) (p : Parts) (t : Turning o) (q : Parted o p) where
+module _ (o : Odometer) (p : Parts) (q : Parted o p) where
+  abbrev t : Turning o.digits o.sizes o.count
+  t = o.turning
+
   pub fast_are : take p.fast o.sizes ≡ fast_of o p
   fast_are = sym (take-take p.fast o.count o.sizes q.fast_few)
 
   pub fast_positive : Positive (take p.fast o.sizes)
-  fast_positive = subst Positive (sym fast_are) (positive_take p.fast (sizes_in o) t.positive)
+  fast_positive = subst Positive (sym fast_are) (positive_take p.fast (sizes_in o) (positive o))
 
   pub fast_length : length (take p.fast o.sizes) ≡ p.fast
   fast_length =

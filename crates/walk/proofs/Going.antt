@@ -25,9 +25,9 @@ use Rattle.order.specs.Order.{level_in}
 use Rattle.walk.specs.Cells.{cell, least_of, SolvedFrom, SlowLaid}
 use Rattle.walk.proofs.Found.{FirstLane}
 use Rattle.std.specs.Prelude.{Some, None}
-use Rattle.walk.specs.declared.Plan.{Plan}
+use Rattle.walk.specs.declared.plan.Plan.{Plan}
 use Rattle.walk.specs.declared.branches.Branch.{Branch}
-use Rattle.walk.specs.Digits.{Turning, NextIs, SlowIs, digits_of, sizes_in, fast_of, slow_of}
+use Rattle.walk.specs.Digits.{NextIs, SlowIs, digits_of, sizes_in, fast_of, slow_of}
 use Rattle.walk.specs.Kept.{KeptFresh, FreshBefore}
 use Rattle.walk.specs.Keeping.{Setting, Walking, PlanWalked}
 use Rattle.walk.specs.Laid.{LanesReady}
@@ -53,11 +53,11 @@ use Rattle.walk.proofs.Walking.{
 }
 
 -- the digits in use, one by one
-in_use : (o : Odometer) → Turning o → (xs : List ℕ) → digits_of o ≡ xs → (j : ℕ) → j < o.count → get_or o.digits j 0 ≡ get_or xs j 0
-in_use o t xs e j h = sym (get_or-take o.count o.digits j 0 h) ∙ ap (λ (ys : List ℕ). get_or ys j 0) e
+in_use : (o : Odometer) → (xs : List ℕ) → digits_of o ≡ xs → (j : ℕ) → j < o.count → get_or o.digits j 0 ≡ get_or xs j 0
+in_use o xs e j h = sym (get_or-take o.count o.digits j 0 h) ∙ ap (λ (ys : List ℕ). get_or ys j 0) e
 
-pub count_length : (o : Odometer) → Turning o → o.count ≡ length (sizes_in o)
-count_length o t = let a = t.few in let b = t.sizes_long in sym (length-take-le o.count o.sizes (omega arith))
+pub count_length : (o : Odometer) → o.count ≡ length (sizes_in o)
+count_length o = let a = o.turning.few in let b = o.turning.sizes_long in sym (length-take-le o.count o.sizes (omega arith))
 
 module _ (plan : Plan) (positions starts : List ℕ) (bs : List Branch) (set : Setting plan positions starts bs) where
   abbrev table : List ℕ
@@ -115,8 +115,7 @@ module _ (plan : Plan) (positions starts : List ℕ) (bs : List Branch) (set : S
       → SlowLaid S N p.fast now.digits now.count mid cells
       → Walking plan positions budget cells now 0 0 0
   sets_out budget now sl mid cells ready laid =
-      let t = sl.turning in
-      let many = count_length now t ∙ ap length sl.sizes_are in
+      let many = count_length now ∙ ap length sl.sizes_are in
       let at_first : digits_of now ≡ digits_after slow 0 = sl.at_first ∙ ap first sl.sizes_are in
       record {
         reached = omega arith;
@@ -124,7 +123,6 @@ module _ (plan : Plan) (positions starts : List ℕ) (bs : List Branch) (set : S
         passed = omega arith;
         going = λ _. (let e : 0 ≡ 0 * W = omega arith in e);
         held = λ n a b. absurd (omega arith);
-        turns = t;
         sizes_are = sl.sizes_are;
         digits_are = at_first;
         from_few = omega arith;
@@ -135,22 +133,22 @@ module _ (plan : Plan) (positions starts : List ℕ) (bs : List Branch) (set : S
                   λ v b l h.
                   (let f = fits in let e = F-is in laid.outside (S * (2 + v) + l) (inl (digit_cell S (2 + v) (2 + p.fast) l (omega arith) (omega arith))))
                   ∙ ready.fast_held v b l h;
-              slow_held = λ j b l h. slow_at j b l h many at_first t;
+              slow_held = λ j b l h. slow_at j b l h many at_first;
             };
         early = fresh_none plan.table.well_formed fast slow (fine plan positions starts bs set) (both_length plan positions starts bs set)
             (digits_right plan positions starts bs set) S fits (positions_in positions) (inside plan positions starts bs set) bs set.branches_long set.decoded 0 cells;
       }
     where
-      slow_at : (j : ℕ) → j < length slow → (l : ℕ) → l < S → now.count ≡ length slow → digits_of now ≡ digits_after slow 0 → Turning now
+      slow_at : (j : ℕ) → j < length slow → (l : ℕ) → l < S → now.count ≡ length slow → digits_of now ≡ digits_after slow 0
           → cell S cells (2 + (length fast + j)) l ≡ get_or (digits_after slow 0) j 0 + least_of N (length fast + j)
-      slow_at j b l h many at_first t =
+      slow_at j b l h many at_first =
           subst (λ F. cell S cells (2 + (F + j)) l ≡ get_or (digits_after slow 0) j 0 + least_of N (F + j)) (sym F-is)
           (laid.laid j (omega arith) l h
-          ∙ ap (λ x. x + least_of N (p.fast + j)) (in_use now t (digits_after slow 0) at_first j (omega arith)))
+          ∙ ap (λ x. x + least_of N (p.fast + j)) (in_use now (digits_after slow 0) at_first j (omega arith)))
 
   module _ (budget : ℕ) (cells : List ℕ) (now : Odometer) (tried from q : ℕ) (w : Walking plan positions budget cells now tried from q) where
     now_count : now.count ≡ length slow
-    now_count = count_length now w.turns ∙ ap length w.sizes_are
+    now_count = count_length now ∙ ap length w.sizes_are
 
     -- the digit that turned is one of them
     pub turned_few : (next' : Odometer) (turned : ℕ) → NextIs now next' (Some turned) → (p.fast + turned < s.variables + s.truths) × (p.fast + turned < 40)
@@ -158,7 +156,7 @@ module _ (plan : Plan) (positions starts : List ℕ) (bs : List Branch) (set : S
         let a = n.turned_is.1 in
         let b = now_count ∙ slow_length plan positions starts bs set in
         let c = count_is plan positions starts bs set in
-        let f = set.planned.begins.turning.few in
+        let f = plan.start.turning.few in
         (omega arith, omega arith)
 
   module _ (budget : ℕ) (cells : List ℕ) (now : Odometer) (tried from q : ℕ) (w : Walking plan positions budget cells now tried from q)
@@ -249,7 +247,6 @@ module _ (plan : Plan) (positions starts : List ℕ) (bs : List Branch) (set : S
                   let c : tried + many ≡ suc q * W = omega arith in
                   c);
               held = held_all;
-              turns = n.turning;
               sizes_are = ap₂ (λ (c : ℕ) (xs : List ℕ). take c xs) n.same_count n.same_sizes ∙ w.sizes_are;
               digits_are = next_are;
               from_few = subst (λ m. m ≤ nodes) (sym f) (start_inside (level_in table s p.fast (take (s.variables + s.truths) o.sizes)) nodes (p.fast + turned));
@@ -258,7 +255,7 @@ module _ (plan : Plan) (positions starts : List ℕ) (bs : List Branch) (set : S
               digits_held =
                   digits_next S N fast slow (digits_after slow q) after final fits (digits_length slow q) some
                   (digits_solved S N fast slow (digits_after slow q) bs cells after from solved few_digits fits w.digits_held) next'.digits
-                  (λ j h. in_use next' n.turning (digits_after slow (suc q)) next_are j (let c = n.same_count in let k = now_count budget cells now tried from q w in omega arith))
+                  (λ j h. in_use next' (digits_after slow (suc q)) next_are j (let c = n.same_count in let k = now_count budget cells now tried from q w in omega arith))
                   (subst (λ F. SlowLaid S N F next'.digits (turning slow (digits_after slow q) + 1) after final) (sym F-is)
                   (subst (λ x. SlowLaid S N p.fast next'.digits (x + 1) after final) turned_is laid));
               early =

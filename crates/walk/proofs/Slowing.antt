@@ -1,5 +1,5 @@
 -- The odometer of the slow digits: its sizes are those after the fast ones, and it stands at its first place. Assumes nothing.
-use mathlib.Core.Path.{◌≡◌, refl, sym, ap, ◌∙◌, subst}
+use mathlib.Core.Path.{◌≡◌, refl, sym, ap, ◌∙◌}
 use Prim.Native.Nat.{ℕ, zero, suc, ◌+◌, ◌-◌, ◌≤◌, ◌<◌}
 use native.Mathlib.Omega.{arith}
 use mathlib.Core.List.{List, [], ◌∷◌, ◌++◌}
@@ -7,9 +7,10 @@ use mathlib.Core.Logic.{inl, inr}
 use lib.ListN.{length, get_or, take, drop, replicate, length-take, length-drop, length-append, length-replicate, get_or-append}
 use lib.Seq.{get_or-append-add, get_or-take, get_or-drop, length-take-le, ext_get_or}
 use Rattle.definitions.specs.Places.{first}
-use Rattle.theorems.proofs.Search.Places.{Positive, Within}
+use Rattle.theorems.proofs.Search.Places.{Positive}
 use Rattle.walk.specs.declared.odometer.Odometer.{Odometer}
-use Rattle.walk.specs.Digits.{Turning, sizes_in, digits_of, SlowIs}
+use Rattle.walk.specs.Turning.{Turning}
+use Rattle.walk.specs.Digits.{sizes_in, SlowIs}
 
 pub record Taking (fast : ℕ) (all : List ℕ) (j : ℕ) (sizes : List ℕ) : Type 0 where
   pub long : length sizes ≡ 40
@@ -45,13 +46,7 @@ positive_drop zero ss p = p
 positive_drop (suc n) [] p = p
 positive_drop (suc n) (s ∷ ss) p = positive_drop n ss p.1
 
--- digits that are all 0 are in their ranges, and the first
-zeros_within : (ss ds : List ℕ) → Positive ss → length ds ≡ length ss → ((i : ℕ) → get_or ds i 0 ≡ 0) → Within ss ds
-zeros_within [] [] p l z = tt
-zeros_within [] (d ∷ ds) p l z = absurd (omega arith)
-zeros_within (s ∷ ss) [] p l z = absurd (omega arith)
-zeros_within (s ∷ ss) (d ∷ ds) p l z = (let a = z 0 in let b = p.0 in omega arith, zeros_within ss ds p.1 (omega arith) (λ i. z (suc i)))
-
+-- digits that are all 0 are the first
 zeros_first : (ss ds : List ℕ) → length ds ≡ length ss → ((i : ℕ) → get_or ds i 0 ≡ 0) → ds ≡ first ss
 zeros_first [] [] l z = refl
 zeros_first [] (d ∷ ds) l z = absurd (omega arith)
@@ -61,12 +56,12 @@ zeros_first (s ∷ ss) (d ∷ ds) l z =
     let e : d ≡ 0 = z 0 in
     cc
 
-module _ (o : Odometer) (F : ℕ) (t : Turning o) (few : F ≤ o.count) (sizes : List ℕ) (taking : Taking F o.sizes (o.count - F) sizes) where
+module _ (o : Odometer) (F : ℕ) (few : F ≤ o.count) (sizes : List ℕ) (taking : Taking F o.sizes (o.count - F) sizes) where
   abbrev n : ℕ
   n = o.count - F
 
-  abbrev r : Odometer
-  r = record { digits = replicate 40 0; sizes = sizes; count = n }
+  abbrev t : Turning o.digits o.sizes o.count
+  t = o.turning
 
   n_few : n ≤ 40
   n_few = let a = t.few in omega arith
@@ -86,7 +81,7 @@ module _ (o : Odometer) (F : ℕ) (t : Turning o) (few : F ≤ o.count) (sizes :
       get_or-take n sizes i 0 (omega arith) ∙ taking.taken i (omega arith) ∙ sym (get_or-take o.count o.sizes (F + i) 0 (omega arith))
       ∙ sym (get_or-drop F (sizes_in o) i 0))
 
-  digits_length : length (digits_of r) ≡ n
+  digits_length : length (take n (replicate {A = ℕ} 40 0)) ≡ n
   digits_length = let b = n_few in let e = length-replicate {A = ℕ} 40 0 in length-take-le n (replicate 40 0) (omega arith)
 
   zero_digit : (i : ℕ) → get_or (take n (replicate {A = ℕ} 40 0)) i 0 ≡ 0
@@ -103,24 +98,27 @@ module _ (o : Odometer) (F : ℕ) (t : Turning o) (few : F ≤ o.count) (sizes :
         | inr h ↦ (let a = taking.rest i h in omega arith)
       ]
 
-  good : Positive (take n sizes)
-  good = subst Positive (sym same_sizes) (positive_drop F (sizes_in o) t.positive)
-
-  pub taking_all : SlowIs o F (record { digits = replicate 40 0; sizes = sizes; count = o.count - F })
-  taking_all =
-      let same = digits_length ∙ sym here_length in
+  pub slow_turns : Turning (replicate 40 0) sizes (o.count - F)
+  slow_turns =
       record {
-        turning =
-            record {
-              digits_long = length-replicate {A = ℕ} 40 0;
-              sizes_long = taking.long;
-              few = n_few;
-              sizes_small = size_small;
-              positive = good;
-              within = zeros_within (take n sizes) (digits_of r) good same zero_digit;
-              past = λ i h. zeros_at 40 i;
-            };
+        digits_long = length-replicate {A = ℕ} 40 0;
+        sizes_long = taking.long;
+        few = n_few;
+        sizes_small = size_small;
+        within =
+            λ i h.
+            let z = zeros_at 40 i in
+            let e = taking.taken i h in
+            let w = t.within (F + i) (omega arith) in
+            omega arith;
+        past = λ i h. zeros_at 40 i;
+      }
+
+  pub slow_is : (turning : Turning (replicate 40 0) sizes (o.count - F))
+      → SlowIs o F (record { digits = replicate 40 0; sizes = sizes; count = o.count - F; turning = turning })
+  slow_is turning =
+      record {
         count_is = refl;
         sizes_are = same_sizes;
-        at_first = zeros_first (take n sizes) (digits_of r) same zero_digit;
+        at_first = zeros_first (take n sizes) (take n (replicate 40 0)) (digits_length ∙ sym here_length) zero_digit;
       }

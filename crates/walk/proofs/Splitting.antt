@@ -1,15 +1,15 @@
 -- The digits split in two: the first ones have no more assignments than there are lanes. Assumes nothing.
 use mathlib.Core.Path.{◌≡◌, sym, ap, ◌∙◌}
-use Prim.Native.Nat.{ℕ, zero, suc, ◌+◌, ◌*◌, ◌≤◌, ◌<◌}
+use Prim.Native.Nat.{ℕ, suc, ◌+◌, ◌*◌, ◌≤◌, ◌<◌}
 use native.Mathlib.Omega.{arith}
 use native.Mathlib.Nat.{mul-le-mul_left}
 use mathlib.Core.List.{List, [], ◌∷◌}
 use lib.ListN.{length, get_or, take}
 use lib.Seq.{get_or-take, length-take-le, take-suc}
 use Rattle.definitions.specs.Lists.{product_of}
-use Rattle.theorems.proofs.Search.Places.{Positive, product_of_append}
+use Rattle.theorems.proofs.Search.Places.{product_of_append}
 use Rattle.walk.specs.declared.odometer.Odometer.{Odometer}
-use Rattle.walk.specs.Digits.{Turning, sizes_in}
+use Rattle.walk.specs.Digits.{sizes_in}
 
 product_next : (xs : List ℕ) (k : ℕ) → k < length xs → product_of (take (k + 1) xs) ≡ product_of (take k xs) * get_or xs k 0
 product_next xs k h =
@@ -18,11 +18,6 @@ product_next xs k h =
     ∙ product_of_append (take k xs) (get_or xs k 0 ∷ [])
     ∙ (let e : product_of (take k xs) * (get_or xs k 0 * 1) ≡ product_of (take k xs) * get_or xs k 0 = omega arith in e)
 
-pub positive_at : (ss : List ℕ) → Positive ss → (j : ℕ) → j < length ss → 1 ≤ get_or ss j 0
-positive_at [] p j h = absurd (omega arith)
-positive_at (s ∷ ss) p zero h = p.0
-positive_at (s ∷ ss) p (suc j) h = positive_at ss p.1 j (omega arith)
-
 -- the first digits, while they have few enough assignments
 pub record Splitting (sizes : List ℕ) (count most fast lanes : ℕ) : Type 0 where
   pub few : fast ≤ count
@@ -30,15 +25,12 @@ pub record Splitting (sizes : List ℕ) (count most fast lanes : ℕ) : Type 0 w
   pub some : 1 ≤ lanes
   pub fit : lanes ≤ most
 
-module _ (o : Odometer) (t : Turning o) (most fast lanes : ℕ) (s : Splitting o.sizes o.count most fast lanes) where
+module _ (o : Odometer) (most fast lanes : ℕ) (s : Splitting o.sizes o.count most fast lanes) where
   pub sizes_length : length (sizes_in o) ≡ o.count
-  sizes_length = let a = t.few in let b = t.sizes_long in length-take-le o.count o.sizes (omega arith)
+  sizes_length = let a = o.turning.few in let b = o.turning.sizes_long in length-take-le o.count o.sizes (omega arith)
 
   pub size_here : fast < o.count → (1 ≤ get_or o.sizes fast 0) × (get_or o.sizes fast 0 < 256)
-  size_here h =
-      let e = get_or-take o.count o.sizes fast 0 h in
-      let p = positive_at (sizes_in o) t.positive fast (let l = sizes_length in omega arith) in
-      (omega arith, t.sizes_small fast)
+  size_here h = let w = o.turning.within fast h in (omega arith, o.turning.sizes_small fast)
 
   pub splits_more : fast < o.count → (more : ℕ) → more ≡ lanes * get_or o.sizes fast 0 → more ≤ most → Splitting o.sizes o.count most (fast + 1) more
   splits_more h more e g =

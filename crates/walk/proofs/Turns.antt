@@ -5,10 +5,12 @@ use native.Mathlib.Omega.{arith}
 use mathlib.Core.Bool.{Bool, true, false}
 use mathlib.Core.List.{List, [], ◌∷◌}
 use lib.ListN.{length, get_or}
-use lib.Seq.{ext_get_or}
+use lib.Seq.{ext_get_or, get_or-take, length-take-le}
 use borrow.Author.Tests.{lt-ltb, le-ltb}
 use Rattle.definitions.specs.Places.{next}
-use Rattle.theorems.proofs.Search.Places.{Within}
+use Rattle.theorems.proofs.Search.Places.{Positive}
+use Rattle.walk.specs.Digits.{sizes_in}
+use Rattle.walk.specs.declared.odometer.Odometer.{Odometer}
 
 module _ (s d : ℕ) (ss ds : List ℕ) where
   abbrev picked : Bool → List ℕ
@@ -68,9 +70,19 @@ next_wraps (s ∷ ss) (d ∷ ds) (x ∷ es) c =
     ap₂ {C = List ℕ} (λ y ys. y ∷ ys) (c.zeros 0 (omega arith)) (next_wraps ss ds es (carried_tail (length ss) s d x ss ds es c))
     ∙ sym (carry s d ss ds (c.tops 0 (omega arith)))
 
--- digits in their ranges, from each of them
-pub within_of : (ss ds : List ℕ) → length ds ≡ length ss → ((j : ℕ) → j < length ss → get_or ds j 0 < get_or ss j 0) → Within ss ds
-within_of [] [] l h = tt
-within_of [] (d ∷ ds) l h = absurd (omega arith)
-within_of (s ∷ ss) [] l h = absurd (omega arith)
-within_of (s ∷ ss) (d ∷ ds) l h = (h 0 (omega arith), within_of ss ds (omega arith) (λ j g. h (suc j) (omega arith)))
+positive_of : (ss : List ℕ) → ((j : ℕ) → j < length ss → 1 ≤ get_or ss j 0) → Positive ss
+positive_of [] h = tt
+positive_of (s ∷ ss) h = (h 0 (omega arith), positive_of ss (λ j g. h (suc j) (omega arith)))
+
+-- sizes above digits are positive
+pub positive : (o : Odometer) → Positive (sizes_in o)
+positive o =
+    let t = o.turning in
+    let few = t.few in
+    let long = t.sizes_long in
+    let l = length-take-le o.count o.sizes (omega arith) in
+    positive_of (sizes_in o)
+    (λ j h.
+    let w = t.within j (omega arith) in
+    let e = get_or-take o.count o.sizes j 0 (omega arith) in
+    omega arith)

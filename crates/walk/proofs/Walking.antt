@@ -29,7 +29,7 @@ use Rattle.order.specs.Order.{level_in}
 use Rattle.walk.specs.Cells.{cell, LaneCopied}
 use Rattle.walk.proofs.Found.{FirstLane}
 use Rattle.std.specs.Prelude.{Some, None}
-use Rattle.walk.specs.declared.Plan.{Plan}
+use Rattle.walk.specs.declared.plan.Plan.{Plan}
 use Rattle.walk.specs.declared.branches.Branch.{Branch}
 use Rattle.walk.specs.Digits.{Digits, ValuesAre, value_in, sizes_in, fast_of, slow_of}
 use Rattle.walk.specs.Kept.{lane_digits, KeptFresh}
@@ -40,6 +40,7 @@ use Rattle.walk.specs.declared.odometer.Odometer.{Odometer}
 use Rattle.walk.specs.declared.split.Parts.{Parts}
 use Rattle.walk.proofs.Arranging.{ordering}
 use Rattle.walk.proofs.Slowing.{positive_drop}
+use Rattle.walk.proofs.Turns.{positive}
 use Rattle.walk.proofs.Values.{bit, truth_byte}
 
 -- as many lanes as places are left, and at most all
@@ -110,13 +111,13 @@ module _ (plan : Plan) (positions starts : List ℕ) (bs : List Branch) (set : S
   limit budget = min budget (product_of ss)
 
   pub count_is : o.count ≡ N + s.truths
-  count_is = set.planned.begins.count_is
+  count_is = plan.planned.begins.count_is
 
   sizes_length : length ss ≡ o.count
-  sizes_length = let t = set.planned.begins.turning in let a = t.few in let b = t.sizes_long in length-take-le o.count o.sizes (omega arith)
+  sizes_length = let t = o.turning in let a = t.few in let b = t.sizes_long in length-take-le o.count o.sizes (omega arith)
 
   pub fast_length : length fast ≡ p.fast
-  fast_length = let f = set.planned.parts_are.parted.fast_few in let l = sizes_length in length-take-le p.fast ss (omega arith)
+  fast_length = let f = plan.planned.parts_are.parted.fast_few in let l = sizes_length in length-take-le p.fast ss (omega arith)
 
   pub slow_length : length slow ≡ o.count - p.fast
   slow_length = length-drop p.fast ss ∙ ap (λ n. n - p.fast) sizes_length
@@ -126,20 +127,20 @@ module _ (plan : Plan) (positions starts : List ℕ) (bs : List Branch) (set : S
       let a = fast_length in
       let b = slow_length in
       let c = count_is in
-      let f = set.planned.parts_are.parted.fast_few in
+      let f = plan.planned.parts_are.parted.fast_few in
       omega arith
 
   whole : fast ++ slow ≡ ss
   whole = take-append-drop p.fast ss
 
   pub fine : Positive slow
-  fine = positive_drop p.fast ss set.planned.begins.turning.positive
+  fine = positive_drop p.fast ss (positive o)
 
   pub lanes_are : W ≡ product_of fast
-  lanes_are = set.planned.parts_are.parted.lanes_are
+  lanes_are = plan.planned.parts_are.parted.lanes_are
 
   pub room : product_of fast ≤ S
-  room = let e = lanes_are in let f = set.planned.parts_are.parted.lanes_fit in omega arith
+  room = let e = lanes_are in let f = plan.planned.parts_are.parted.lanes_fit in omega arith
 
   pub product_is : product_of ss ≡ W * product_of slow
   product_is = ap product_of (sym whole) ∙ product_of_append fast slow ∙ ap (λ w. w * product_of slow) (sym lanes_are)
@@ -153,9 +154,9 @@ module _ (plan : Plan) (positions starts : List ℕ) (bs : List Branch) (set : S
             λ v h.
             let c = count_is in
             let l = sizes_length in
-            let b = within_at ss (digits_after ss t) (after_within ss set.planned.begins.turning.positive t) (N + v) (omega arith) in
+            let b = within_at ss (digits_after ss t) (after_within ss (positive o) t) (N + v) (omega arith) in
             let e = get_or-take o.count o.sizes (N + v) 0 (omega arith) in
-            let two = set.planned.begins.bits v h in
+            let two = plan.planned.begins.bits v h in
             omega arith;
       })
 
@@ -192,8 +193,8 @@ module _ (plan : Plan) (positions starts : List ℕ) (bs : List Branch) (set : S
 
     root_byte : (l : ℕ) → l < W → cell S after (42 + pos root) l ≡ bit (good (q * W + l + 1))
     root_byte l h =
-        let b = set.planned.root_in.below in
-        lane_place l h root b ∙ truth_byte plan.table.well_formed (digits_at ss (q * W + l + 1)) root b set.planned.root_in.is_formula
+        let b = plan.planned.root_in.below in
+        lane_place l h root b ∙ truth_byte plan.table.well_formed (digits_at ss (q * W + l + 1)) root b plan.planned.root_in.is_formula
 
     zero_false : (b : Bool) → bit b ≡ 0 → b ≡ false
     zero_false true e = absurd (omega arith)

@@ -1,10 +1,9 @@
 -- Digits, their successor, and the values at an assignment, as the code has them. Assumes nothing.
-use Rattle.std.specs.Prelude.{◌≡◌, ℕ, ◌+◌, ◌*◌, ◌-◌, ◌≤◌, ◌<◌, List, [], map, Option, MatchOption, length, get_or, take, drop}
+use Rattle.std.specs.Prelude.{◌≡◌, ℕ, ◌+◌, ◌*◌, ◌-◌, ◌≤◌, ◌<◌, List, [], map, Option, MatchOption, get_or, take, drop}
 use Rattle.definitions.specs.Logic.{value_at, values}
 use Rattle.definitions.specs.Lists.{product_of}
 use Rattle.definitions.specs.Places.{next, first, assignment}
 use Rattle.definitions.specs.Witness.{byte_of}
-use Rattle.theorems.proofs.Search.Places.{Within, Positive}
 use Rattle.ranges.specs.Table.{table_in}
 use Rattle.ranges.specs.declared.Shape.{Shape}
 use Rattle.blocks.specs.Moves.{turning as moved}
@@ -38,19 +37,8 @@ fast_of o p = take p.fast (sizes_in o)
 abbrev pub slow_of : Odometer → Parts → List ℕ
 slow_of o p = drop p.fast (sizes_in o)
 
--- an odometer whose digits are in their ranges, and 0 past the last
-pub record Turning (o : Odometer) : Type 0 where
-  pub digits_long : length o.digits ≡ 40
-  pub sizes_long : length o.sizes ≡ 40
-  pub few : o.count ≤ 40
-  pub sizes_small : (j : ℕ) → get_or o.sizes j 0 < 256
-  pub positive : Positive (sizes_in o)
-  pub within : Within (sizes_in o) (digits_of o)
-  pub past : (i : ℕ) → o.count ≤ i → get_or o.digits i 0 ≡ 0
-
 -- the successor: the same sizes, the next digits, and which one turned, or none where it comes to its end
 pub record NextIs (o next' : Odometer) (turned : Option ℕ) : Type 0 where
-  pub turning : Turning next'
   pub same_sizes : next'.sizes ≡ o.sizes
   pub same_count : next'.count ≡ o.count
   pub digits_next : digits_of next' ≡ next (sizes_in o) (digits_of o)
@@ -58,7 +46,6 @@ pub record NextIs (o next' : Odometer) (turned : Option ℕ) : Type 0 where
 
 -- the odometer of the digits after the first F, at its first place
 pub record SlowIs (o : Odometer) (F : ℕ) (r : Odometer) : Type 0 where
-  pub turning : Turning r
   pub count_is : r.count ≡ o.count - F
   pub sizes_are : sizes_in r ≡ drop F (sizes_in o)
   pub at_first : digits_of r ≡ first (sizes_in r)

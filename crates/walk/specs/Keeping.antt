@@ -6,20 +6,14 @@ use Rattle.definitions.specs.Places.{digits_after}
 use Rattle.theorems.specs.Searched.{AllTrue}
 use Rattle.order.specs.Order.{Arranged}
 use Rattle.walk.specs.Cells.{Decoded, Constant, DigitsHeld}
-use Rattle.walk.specs.Digits.{Turning, PartsAre, digits_of, sizes_in, fast_of, slow_of}
+use Rattle.walk.specs.Digits.{digits_of, sizes_in, fast_of, slow_of}
 use Rattle.walk.specs.Kept.{FreshBefore}
 use Rattle.walk.specs.Reading.{positions_in}
-use Rattle.walk.specs.Walked.{root_true, RootIn, Starts, WalkIs}
+use Rattle.walk.specs.Walked.{root_true, WalkIs}
 use Rattle.walk.specs.declared.Begun.{Begun}
-use Rattle.walk.specs.declared.Plan.{Plan}
+use Rattle.walk.specs.declared.plan.Plan.{Plan}
 use Rattle.walk.specs.declared.branches.Branch.{Branch}
 use Rattle.walk.specs.declared.odometer.Odometer.{Odometer}
-
--- a table, its root, and an odometer at place 1 whose digits are split
-pub record Planned (plan : Plan) : Type 0 where
-  pub root_in : RootIn plan.table.bytes.now plan.table.shape plan.root
-  pub begins : Starts plan.table.shape plan.start
-  pub parts_are : PartsAre plan.start plan.table.shape.nodes plan.parts
 
 -- the walk of such a table: as many places as the budget allows
 abbrev pub PlanWalked : Plan → ℕ → List ℕ → Option ℕ → Type 0
@@ -28,7 +22,6 @@ PlanWalked plan budget vals r =
 
 -- what holds all the while
 pub record Setting (plan : Plan) (positions starts : List ℕ) (bs : List Branch) : Type 0 where
-  pub planned : Planned plan
   pub arranged : Arranged plan.table.bytes.now plan.table.shape plan.parts.fast (take (plan.table.shape.variables + plan.table.shape.truths) plan.start.sizes) positions starts
   pub decoded : Decoded (16 * plan.parts.chunks) (positions_in positions) plan.table.bytes.now plan.table.shape bs plan.table.shape.nodes
   pub positions_long : length positions ≡ plan.table.shape.nodes
@@ -40,7 +33,6 @@ pub record Walking (plan : Plan) (positions : List ℕ) (budget : ℕ) (cells : 
   pub passed : tried ≤ q * plan.parts.lanes
   pub going : tried < budget → tried ≡ q * plan.parts.lanes
   pub held : AllTrue (root_true plan.table.bytes.now plan.table.shape plan.root (sizes_in plan.start)) tried
-  pub turns : Turning now
   pub sizes_are : sizes_in now ≡ slow_of plan.start plan.parts
   pub digits_are : digits_of now ≡ digits_after (slow_of plan.start plan.parts) q
   pub from_few : from ≤ plan.table.shape.nodes

@@ -1,7 +1,9 @@
 pub mod Cells
+pub mod Turning
 pub mod Digits
 pub mod Laid
 pub mod Reading
 pub mod Kept
 pub mod Walked
+pub mod Planned
 pub mod Keeping

@@ -7,7 +7,7 @@ use Rattle.theorems.proofs.Laws.Ops.{sort_at}
 use Rattle.theorems.specs.Searched.{AllTrue, FirstFalse}
 use Rattle.ranges.specs.Table.{table_in}
 use Rattle.ranges.specs.declared.Shape.{Shape}
-use Rattle.walk.specs.Digits.{ValuesAre, Turning, digits_of, sizes_in}
+use Rattle.walk.specs.Digits.{ValuesAre, digits_of, sizes_in}
 use Rattle.walk.specs.declared.odometer.Odometer.{Odometer}
 
 -- the root is true at a place of the table
@@ -22,7 +22,6 @@ pub record RootIn (table : List ℕ) (s : Shape) (root : ℕ) : Type 0 where
 
 -- the odometer stands at place 1, with a digit for each variable and truth variable
 pub record Starts (s : Shape) (o : Odometer) : Type 0 where
-  pub turning : Turning o
   pub count_is : o.count ≡ s.variables + s.truths
   pub at_first : digits_of o ≡ first (sizes_in o)
   pub small : (v : ℕ) → v < s.variables → get_or o.sizes v 0 ≤ 24

@@ -73,7 +73,8 @@ fn cell_at(positions: &[u16], k: u16) -> u16
     42 + positions[usize::from(k)]
 }
 
-// The branch of node k.
+// The branch of node k. That the positions are those of the nodes in some order (`InOrder`) is asked in three contracts: it is a fact
+// of a lent array, which `arrange` has filled, and a struct round it would be no plainer.
 fn branch_at(table: FreeTable<'_>, k: usize, positions: &[u16]) -> Branch
     requires { (k < table.shape.nodes) × InOrder positions.now × (length positions.now ≡ table.shape.nodes) }
     ensures { result ≡ branch_of (cell_at (positions_in positions.now)) table.entry.shape.variables (node (table_in table.entry.bytes.now table.entry.shape.nodes) k) }

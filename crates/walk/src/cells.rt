@@ -2,10 +2,9 @@
 ghost use Rattle.std.specs.Prelude.{◌≡◌, ℕ, ◌+◌, ◌*◌, ◌%◌, ◌≤◌, ◌<◌, length, get_or};
 ghost use Rattle.walk.specs.Cells.{Filled, least_of, SlowLaid};
 ghost use Rattle.walk.specs.Digits.{fast_of};
-ghost use Rattle.walk.specs.Keeping.{Planned};
 ghost use Rattle.walk.specs.Laid.{DigitLaid, FastLaid, LanesReady};
 
-use crate::Plan;
+use crate::plan::Plan;
 
 // The least value of a variable is 1, of a truth variable 0.
 fn least(variables: usize, v: usize) -> u8
@@ -50,7 +49,7 @@ fn lay_digit(cells: &mut [u8], at: usize, lanes: usize, run: usize, size: u8, le
 
 // The fast digits, one after the other. A digit of a single value is one run.
 fn lay_fast(plan: &Plan, cells: &mut [u8])
-    requires { Planned plan.now × (16 * plan.now.parts.chunks * 43 ≤ length cells.old) }
+    requires { 16 * plan.now.parts.chunks * 43 ≤ length cells.old }
     ensures { FastLaid (16 * plan.now.parts.chunks) plan.now.table.shape.variables (fast_of plan.now.start plan.now.parts) plan.now.parts.fast cells.old cells.new }
 {
     let parts = plan.parts;
@@ -66,7 +65,7 @@ fn lay_fast(plan: &Plan, cells: &mut [u8])
 
 // False, true and the fast digits: these lanes are the same in every block.
 pub fn lay_lanes(plan: &Plan, cells: &mut [u8])
-    requires { Planned plan.now × (16 * plan.now.parts.chunks * 43 ≤ length cells.old) }
+    requires { 16 * plan.now.parts.chunks * 43 ≤ length cells.old }
     ensures { LanesReady (16 * plan.now.parts.chunks) plan.now.table.shape.variables (fast_of plan.now.start plan.now.parts) cells.new }
 {
     let chunks = plan.parts.chunks;
@@ -77,7 +76,7 @@ pub fn lay_lanes(plan: &Plan, cells: &mut [u8])
 
 // The first slow digits, each in all lanes of its cell.
 pub fn lay_slow(plan: &Plan, digits: &[u8], cells: &mut [u8])
-    requires { Planned plan.now × (plan.now.parts.fast + length digits.now ≤ 40) × (16 * plan.now.parts.chunks * 42 ≤ length cells.old) × ((v : ℕ) → get_or digits.now v 0 + 1 < 256) }
+    requires { (plan.now.parts.fast + length digits.now ≤ 40) × (16 * plan.now.parts.chunks * 42 ≤ length cells.old) × ((v : ℕ) → get_or digits.now v 0 + 1 < 256) }
     ensures { SlowLaid (16 * plan.now.parts.chunks) plan.now.table.shape.variables plan.now.parts.fast digits.now (length digits.now) cells.old cells.new }
 {
     let parts = plan.parts;

@@ -29,7 +29,7 @@ fn pick(cells: &[u8], left: usize, right: usize, same: usize, apart: usize) -> [
     lanes
 }
 
-// One position in all its lanes. The branch is read once, and not for each chunk: that takes a sixth less time.
+// One position in all its lanes. The branch is read once, and not for each chunk: large tables take less time by that.
 fn solve(cells: &mut [u8], at: usize, branch: &Branch, chunks: usize)
     requires { (chunks ≤ 8) × (at + 16 * chunks ≤ length cells.old) × (branch.now.left + 16 * chunks ≤ at) × (branch.now.right + 16 * chunks ≤ at) × (branch.now.same + 16 * chunks ≤ at) × (branch.now.apart + 16 * chunks ≤ at) }
     ensures { Chosen (16 * chunks) at branch.now cells.old cells.new }

@@ -7,14 +7,15 @@
 ghost use Rattle.std.specs.Prelude.{◌≡◌, ◌+◌, ◌*◌, ◌≤◌, min, length};
 ghost use Rattle.definitions.specs.Lists.{product_of};
 ghost use Rattle.walk.specs.Digits.{sizes_in};
-ghost use Rattle.walk.specs.Keeping.{Planned, PlanWalked, Begins};
+ghost use Rattle.walk.specs.Keeping.{PlanWalked, Begins};
 ghost use Rattle.walk.specs.Walked.{RootIn, Starts, WalkIs};
 
 use crate::branches::{Branch, decode};
 use crate::cells::{lay_lanes, lay_slow};
 use crate::lanes::{cell_of, evaluate, first_false, values_of};
 use crate::odometer::Odometer;
-use crate::split::{Parts, split};
+use crate::plan::Plan;
+use crate::split::split;
 use order::arrange;
 use ranges::table::FreeTable;
 
@@ -22,16 +23,8 @@ pub mod branches;
 pub mod cells;
 pub mod lanes;
 pub mod odometer;
+pub mod plan;
 pub mod split;
-
-// What is walked: a table, the node whose truth is looked at, the odometer at place 1, and how its digits are split.
-#[derive(Clone, Copy)]
-pub struct Plan<'a> {
-    pub table: FreeTable<'a>,
-    pub root: usize,
-    pub start: Odometer,
-    pub parts: Parts,
-}
 
 // The first false place of the table, among as many as the budget allows: its values are left in values. Where there is none, all
 // of them are true. Places of the same block past the one found have been worked out too; nothing depends on them. A table is
@@ -70,7 +63,6 @@ fn walk_sized<const NODES: usize, const CELLS: usize>(
     budget: u64,
     values: &mut [u8],
 ) -> Option<u64>
-    requires planned { Planned plan.now }
     requires nodes { (plan.now.table.shape.nodes ≤ NODES) × (NODES ≤ 2632) }
     requires cells { (16 * plan.now.parts.chunks * (42 + plan.now.table.shape.nodes) ≤ CELLS) × (CELLS ≤ 57344) }
     requires values { plan.now.table.shape.nodes ≤ length values.old }
@@ -100,7 +92,7 @@ pub struct Begun {
 // The nodes are put in order and made branches, and the cells of the digits are laid for the first block. The three arrays stay
 // apart: the walk then reads two of them and writes the third.
 fn begin(plan: &Plan, positions: &mut [u16], branches: &mut [Branch], cells: &mut [u8]) -> Begun
-    requires { Planned plan.now × (length positions.old ≡ plan.now.table.shape.nodes) × (length branches.old ≡ plan.now.table.shape.nodes) × (16 * plan.now.parts.chunks * (42 + plan.now.table.shape.nodes) ≤ length cells.old) }
+    requires { (length positions.old ≡ plan.now.table.shape.nodes) × (length branches.old ≡ plan.now.table.shape.nodes) × (16 * plan.now.parts.chunks * (42 + plan.now.table.shape.nodes) ≤ length cells.old) }
     ensures { Begins plan.now positions.new branches.new cells.new result }
 {
     let table = plan.table;

@@ -1,7 +1,7 @@
 // The digits in two parts: the first ones, the fast, stand in the lanes of a block, and the odometer of the rest, the slow, goes
 // from block to block.
 ghost use Rattle.std.specs.Prelude.{◌≡◌, ◌+◌, ◌*◌, ◌≤◌};
-ghost use Rattle.walk.specs.Digits.{Turning, PartsAre};
+ghost use Rattle.walk.specs.Digits.{PartsAre};
 
 use crate::odometer::Odometer;
 
@@ -36,7 +36,7 @@ fn most_chunks(nodes: usize) -> usize
 
 // The first digits are fast, as many as have no more assignments than there are lanes.
 pub fn split(all: &Odometer, nodes: usize) -> Parts
-    requires { Turning all.now × (nodes ≤ 2632) }
+    requires { nodes ≤ 2632 }
     ensures { PartsAre all.now nodes result }
 {
     let most = 16 * most_chunks(nodes);

@@ -33,22 +33,22 @@ returns-then-witness-lt206 c =
     (refused_witness _ _ _ _ (taken c.in_ok-problem.ensures.0 _ (not_refused c.in_ok-counts.ensures) c.if-work-lt21056.false)
     c.if-witness-lt206.true)
 
-pub lay_table-laid-requires : goal.lay_table-laid-requires
-lay_table-laid-requires c = (is_accepted c.in_ok-counts.ensures c.in_ok-problem.ensures.1, c.if-work-lt21056.false)
+pub lay_table-requires : goal.lay_table-requires
+lay_table-requires c = (is_accepted c.in_ok-counts.ensures c.in_ok-problem.ensures.1, c.if-work-lt21056.false)
 
 pub invariant_of-table : goal.invariant_of-table
 invariant_of-table c =
     let ok = is_accepted c.in_ok-counts.ensures c.in_ok-problem.ensures.1 in
     record {
       well_formed =
-          subst (TableIn c.lay_table-laid.new.work) (sym c.from.ensures)
-          (table_stands c.in_ok-problem.problem ok c.lay_table-laid.ensures (let same = c.lay_table-laid.auto.work in omega arith));
+          subst (TableIn c.lay_table.new.work) (sym c.from.ensures)
+          (table_stands c.in_ok-problem.problem ok c.lay_table.ensures (let same = c.lay_table.auto.work in omega arith));
     }
 
 pub returns-in_err-product : goal.returns-in_err-product
 returns-in_err-product c =
     let a = c.in_ok-problem.problem in
-    let all = c.lay_table-laid.ensures in
+    let all = c.lay_table.ensures in
     let ok = is_accepted c.in_ok-counts.ensures c.in_ok-problem.ensures.1 in
     let fits = taken c.in_ok-problem.ensures.0 _ (not_refused c.in_ok-counts.ensures) c.if-work-lt21056.false in
     let spans = rw c.from.ensures at c.measure-product.ensures in
@@ -62,7 +62,7 @@ returns-in_err-product c =
 pub search-requires : goal.search-requires
 search-requires c =
     let a = c.in_ok-problem.problem in
-    let all = c.lay_table-laid.ensures in
+    let all = c.lay_table.ensures in
     let ok = is_accepted c.in_ok-counts.ensures c.in_ok-problem.ensures.1 in
     let spans = rw c.from.ensures at c.measure-product.ensures in
     let told = product_told c.measure-product.result.product Refusal.BigProduct c.ok_or.result _ c.ok_or.ensures.value c.in_ok-product.was in
@@ -81,7 +81,7 @@ search-requires c =
 pub returns : goal.returns
 returns c =
     let a = c.in_ok-problem.problem in
-    let all = c.lay_table-laid.ensures in
+    let all = c.lay_table.ensures in
     let ok = is_accepted c.in_ok-counts.ensures c.in_ok-problem.ensures.1 in
     let fits = taken c.in_ok-problem.ensures.0 _ (not_refused c.in_ok-counts.ensures) c.if-work-lt21056.false in
     let spans = rw c.from.ensures at c.measure-product.ensures in

@@ -21,17 +21,17 @@ returns-then-work-lt21056 c =
     refusal_promised c.args.bytes.now c.args.root c.args.work.now
     (refused_short c.in_ok-problem.ensures.0 _ (not_refused c.in_ok-counts.ensures) c.if-work-lt21056.true)
 
-pub lay_table-all-requires : goal.lay_table-all-requires
-lay_table-all-requires c = (is_accepted c.in_ok-counts.ensures c.in_ok-problem.ensures.1, c.if-work-lt21056.false)
+pub lay_table-requires : goal.lay_table-requires
+lay_table-requires c = (is_accepted c.in_ok-counts.ensures c.in_ok-problem.ensures.1, c.if-work-lt21056.false)
 
 pub returns : goal.returns
 returns c =
     let a = c.in_ok-problem.problem in
     let ok = is_accepted c.in_ok-counts.ensures c.in_ok-problem.ensures.1 in
-    let all = c.lay_table-all.ensures in
+    let all = c.lay_table.ensures in
     let many = c.problem.invariant.nodes_are ∙ ap node_count c.problem.view_is in
     table_promised c.in_ok-problem.ensures.0 c.args.work.now
     (taken c.in_ok-problem.ensures.0 _ (not_refused c.in_ok-counts.ensures) c.if-work-lt21056.false)
     (nodes_laid_lem a ok all)
-    (c.from.ensures ∙ ap (λ n. get_or c.lay_table-all.result.images (n - 1) 0) many ∙ root_laid a ok all)
+    (c.from.ensures ∙ ap (λ n. get_or c.lay_table.new.all.images (n - 1) 0) many ∙ root_laid a ok all)
     (table_laid a ok all)

@@ -23,22 +23,22 @@ pub returns-then-work-lt21056 : goal.returns-then-work-lt21056
 returns-then-work-lt21056 c =
     ranges_refused _ _ _ _ (refused_short c.in_ok-problem.ensures.0 _ (not_refused c.in_ok-truths.ensures) c.if-work-lt21056.true)
 
-pub lay_table-all-requires : goal.lay_table-all-requires
-lay_table-all-requires c = (is_accepted c.in_ok-truths.ensures c.in_ok-problem.ensures.1, c.if-work-lt21056.false)
+pub lay_table-requires : goal.lay_table-requires
+lay_table-requires c = (is_accepted c.in_ok-truths.ensures c.in_ok-problem.ensures.1, c.if-work-lt21056.false)
 
 pub invariant_of-measure : goal.invariant_of-measure
 invariant_of-measure c =
     let ok = is_accepted c.in_ok-truths.ensures c.in_ok-problem.ensures.1 in
     record {
       well_formed =
-          subst (TableIn c.lay_table-all.new.work) (sym c.from.ensures)
-          (table_stands c.in_ok-problem.problem ok c.lay_table-all.ensures (let same = c.lay_table-all.auto.work in omega arith));
+          subst (TableIn c.lay_table.new.work) (sym c.from.ensures)
+          (table_stands c.in_ok-problem.problem ok c.lay_table.ensures (let same = c.lay_table.auto.work in omega arith));
     }
 
 pub returns-in_err-product : goal.returns-in_err-product
 returns-in_err-product c =
     let a = c.in_ok-problem.problem in
-    let all = c.lay_table-all.ensures in
+    let all = c.lay_table.ensures in
     let ok = is_accepted c.in_ok-truths.ensures c.in_ok-problem.ensures.1 in
     let within = not_refused c.in_ok-truths.ensures in
     let spans = rw c.from.ensures at c.measure-spans.ensures in
@@ -52,7 +52,7 @@ returns-in_err-product c =
 pub returns : goal.returns
 returns c =
     let a = c.in_ok-problem.problem in
-    let all = c.lay_table-all.ensures in
+    let all = c.lay_table.ensures in
     let ok = is_accepted c.in_ok-truths.ensures c.in_ok-problem.ensures.1 in
     let within = not_refused c.in_ok-truths.ensures in
     let spans = rw c.from.ensures at c.measure-spans.ensures in

@@ -19,7 +19,7 @@ evaluate-requires c =
     let v = c.loop-tried.invariant in
     let few = v.walking.from_few in
     let room = v.room in
-    let p = b.setting.planned in
+    let p = c.args.plan.now.planned in
     let n = c.args.plan.now.table.well_formed.few_nodes in
     let long = b.setting.branches_long in
     (omega arith, omega arith, p.parts_are.parted.chunks_few, rw long (omega arith), ready_all _ _ _ _ b.setting)
@@ -28,7 +28,7 @@ pub overflow_add-begun : goal.overflow_add-begun
 overflow_add-begun c =
     let few = root_small c.requires.0 in
     let many = (lanes_few _ _ _ c.lanes_in-many.ensures).0 in
-    let p = c.requires.0.setting.planned.parts_are.parted in
+    let p = c.args.plan.now.planned.parts_are.parted in
     let a = p.lanes_fit in
     let b = p.chunks_few in
     record { fits = omega arith }
@@ -41,7 +41,7 @@ pub values_of-requires : goal.values_of-requires
 values_of-requires c =
     let b = c.requires.0 in
     let e = b.setting in
-    let p = e.planned in
+    let p = c.args.plan.now.planned in
     let room = c.loop-tried.invariant.room in
     let d = c.evaluate.auto.cells in
     let long = e.positions_long in
@@ -100,14 +100,14 @@ lay_slow-requires c =
     let v = c.loop-tried.invariant in
     let room = v.room in
     let d = c.evaluate.auto.cells in
-    let p = b.setting.planned.parts_are.parted in
+    let p = c.args.plan.now.planned.parts_are.parted in
     let some = p.lanes_some in
     let fit = p.lanes_fit in
     let n = c.in_ok-turned.ensures in
     let m = length-take (c.in_ok-turned.turned + 1) c.next.new.self.digits in
     let few = turned_few _ _ _ _ b.setting _ _ _ _ _ v.block v.walking _ _ n in
     let u = digits_fit (16 * c.args.plan.now.parts.chunks) c.args.plan.now.table.shape.nodes (length c.args.cells.now) c.requires.3 in
-    (b.setting.planned, omega arith, omega arith, small_part _ _ (digits_small _ n.turning))
+    (omega arith, omega arith, small_part _ _ (digits_small c.next.new.self))
 
 pub bounds-begun-parts : goal.bounds-begun-parts
 bounds-begun-parts c =
@@ -122,7 +122,7 @@ loop-tried-preserved c =
     let room = v.room in
     let d = c.evaluate.auto.cells in
     let n = c.in_ok-turned.ensures in
-    let long = n.turning.digits_long in
+    let long = c.next.new.self.turning.digits_long in
     let many = lanes_few _ _ _ c.lanes_in-many.ensures in
     let few = turned_few _ _ _ _ b.setting _ _ _ _ _ v.block v.walking _ _ n in
     let f =

@@ -4,4 +4,4 @@ use Rattle.elimination.proofs.conditions.lay_condition.Goals as goal
 
 pub loop-j-preserved : goal.loop-j-preserved
 loop-j-preserved c =
-    conditioned_next (omega arith) c.requires.2 c.loop-j.invariant (omega arith) (omega arith) c.lay_further.auto.work c.lay_further.ensures
+    conditioned_next c.requires.2 c.loop-j.invariant (omega arith) (omega arith) c.lay_further.auto.work c.lay_further.ensures

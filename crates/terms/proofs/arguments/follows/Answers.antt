@@ -6,7 +6,7 @@ use Rattle.terms.proofs.arguments.follows.Goals as goal
 pub returns-in-Some : goal.returns-in-Some
 returns-in-Some c =
     record {
-      sound = λ text. some_token text c.args.token.lexeme c.in_default.not-End;
-      says = λ text sig arity n seen.
-          (not_closing text c.args.token.lexeme c.in_default.not-Closing, sym (c.in-Some.ensures sig arity n seen));
+      sound = some_token c.args.token.lexeme c.in_default.not-End;
+      says = λ sig arity n seen.
+          (not_closing c.args.token.lexeme c.in_default.not-Closing, sym (c.in-Some.ensures sig arity n seen));
     }

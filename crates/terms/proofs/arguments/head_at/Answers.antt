@@ -5,7 +5,7 @@ use Rattle.terms.proofs.arguments.head_at.Goals as goal
 
 pub returns-in_default : goal.returns-in_default
 returns-in_default c =
-    let a = c.args in none_at a.signature.text.now a.signature.shelf.now a.signature.declared a.sort a.lexeme (not_symbol a.signature.text.now a.lexeme c.in_default.not-Symbol)
+    let a = c.args in none_at a.signature.text.now a.signature.shelf.now a.signature.declared a.sort a.lexeme (not_symbol a.lexeme c.in_default.not-Symbol)
 
 pub returns : goal.returns
 returns c =

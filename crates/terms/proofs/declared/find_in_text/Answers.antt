@@ -1,6 +1,5 @@
 -- By the next declaration.
 use Rattle.std.proofs.Common.{sym, subst, take}
-use Rattle.terms.specs.Lexing.{name_of}
 use Rattle.terms.specs.Declarations.{declared_in, plain_at}
 use Rattle.terms.specs.Symbols.{KnownIn}
 use Rattle.terms.proofs.SymbolLaws.{scan_ends, scan_finds, scan_later}
@@ -8,7 +7,7 @@ use Rattle.terms.proofs.declared.find_in_text.Goals as goal
 
 pub returns-in_err-at : goal.returns-in_err-at
 returns-in_err-at c =
-    subst (KnownIn (take c.args.declared.count (declared_in (name_of c.args.text.now c.args.declared.sort) (plain_at c.args.text.now 0))) (name_of c.args.text.now c.args.name))
+    subst (KnownIn (take c.args.declared.count (declared_in c.args.declared.sort.now (plain_at c.args.text.now 0))) c.args.name.now)
     (sym c.from_residual.ensures) (scan_ends _ _ _ _ _ _ c.loop-number.invariant (c.in_err-at.ensures _))
 
 pub returns-then-declares : goal.returns-then-declares

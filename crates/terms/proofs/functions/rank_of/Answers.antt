@@ -3,7 +3,6 @@ use Rattle.std.proofs.Common.{arith}
 use Rattle.definitions.specs.Text.Tokens.{opening, closing}
 use Rattle.definitions.specs.Text.Reader.{exact, commanding, gave}
 use Rattle.problem.specs.Wanted.{sort_read}
-use Rattle.terms.specs.Lexing.{name_of}
 use Rattle.terms.specs.Ranks.{in_giving}
 use Rattle.terms.specs.Functions.{ReadsRank}
 use Rattle.terms.proofs.LexemeLaws.{exactly_later, passed_on}
@@ -13,13 +12,13 @@ use Rattle.terms.proofs.functions.rank_of.Goals as goal
 
 pub returns-in_err-given : goal.returns-in_err-given
 returns-in_err-given c =
-    passed_on (ReadsRank c.args.text.now c.args.at (name_of c.args.text.now c.args.sort) c.args.arity) _ _ c.from_residual.ensures.1
+    passed_on (ReadsRank c.args.text.now c.args.at c.args.sort.now c.args.arity) _ _ c.from_residual.ensures.1
     (record { sound = tt; says = λ cs name r. c.in_err-given.ensures.says cs name c.args.arity r })
 
 pub returns-in_err-closed : goal.returns-in_err-closed
 returns-in_err-closed c =
     let k = c.args.arity in
-    let sn = name_of c.args.text.now c.args.sort in
+    let sn = c.args.sort.now in
     let given = c.in_ok-given.given in
     passed_on (ReadsRank c.args.text.now c.args.at sn k) _ _ c.from_residual-in_err-closed.ensures.1
     (record {
@@ -32,11 +31,11 @@ returns-in_err-closed c =
 pub returns : goal.returns
 returns c =
     let k = c.args.arity in
-    let sn = name_of c.args.text.now c.args.sort in
+    let sn = c.args.sort.now in
     let given = c.in_ok-given.given in
     record {
       sound = (
-        byte_small k (sort_read given.result) _ c.requires.2 c.byte_of.ensures,
+        byte_small k (sort_read given.result) _ c.requires.1 c.byte_of.ensures,
         c.in_ok-closed.ensures.1,
         omega (arith, c.in_ok-given.ensures.sound.1, exactly_later c.args.text.now closing c.in_ok-closed.ensures.0),
       );

@@ -2,7 +2,6 @@
 use Rattle.std.proofs.Common.{ℕ, List, Ok, refl, sym, subst, arith}
 use Rattle.definitions.specs.Lists.{snoc}
 use Rattle.definitions.specs.Text.Grammar.{Command, declare}
-use Rattle.terms.specs.Lexing.{name_of}
 use Rattle.terms.specs.Reading.{Reached}
 use Rattle.terms.specs.Symbols.{Symbols, at_command}
 use Rattle.terms.specs.Ranks.{in_taking}
@@ -20,8 +19,8 @@ returns-in_err-named c =
 
 -- the arguments may come
 module _ (text : List ℕ) (shelf : List Shelved) (d : Declared) (n : Named) (sn : List ℕ) (cs : List Command) where
-  taking_of : Symbols text sn cs shelf d → NameIs text sn cs (Ok n) → Reached text (in_taking (name_of text d.sort) cs (name_of text n.name) 0) n.at
-  taking_of symbols named = subst (λ (z : List ℕ). Reached text (in_taking z cs (name_of text n.name) 0) n.at) symbols.sort_is_lem named.0
+  taking_of : Symbols text sn cs shelf d → NameIs text sn cs (Ok n) → Reached text (in_taking d.sort.now cs n.name.now 0) n.at
+  taking_of symbols named = subst (λ (z : List ℕ). Reached text (in_taking z cs n.name.now 0) n.at) symbols.sort_is_lem named.0
 
 pub returns-in_err-counted : goal.returns-in_err-counted
 returns-in_err-counted c =
@@ -44,21 +43,20 @@ returns c =
     let ranked = c.in_ok-ranked.ranked in
     record {
       sound = (
-        c.in_ok-named.ensures.sound.0,
         c.in_ok-ranked.ensures.sound.0,
         c.in_ok-ranked.ensures.sound.1,
-        omega (arith, c.in_ok-named.ensures.sound.2, c.in_ok-counted.ensures.sound.2, c.in_ok-ranked.ensures.sound.2),
+        omega (arith, c.in_ok-named.ensures.sound.1, c.in_ok-counted.ensures.sound.2, c.in_ok-ranked.ensures.sound.2),
       );
       says = λ sn cs symbols r.
           let rank = c.in_ok-ranked.ensures.says cs _ (c.in_ok-counted.ensures.says cs _ (taking_of c.args.signature.text.now c.args.signature.shelf.now c.args.signature.declared c.in_ok-named.named sn cs symbols (c.in_ok-named.ensures.says sn cs symbols r))) in
           record {
-            declared = symbol_of (name_of text name) arity rank.0;
+            declared = symbol_of name.now arity rank.0;
             name_is = refl;
             byte_is = rank.1;
             new = (c.in_ok-named.ensures.says sn cs symbols r).1;
             short = c.in_ok-counted.ensures.sound.0;
             reached =
-                subst (λ (z : List ℕ). Reached text (at_command z (snoc cs (declare (symbol_of (name_of text name) arity rank.0)))) ranked.at)
+                subst (λ (z : List ℕ). Reached text (at_command z (snoc cs (declare (symbol_of name.now arity rank.0)))) ranked.at)
                 (sym symbols.sort_is_lem) rank.2;
           };
     }

@@ -1,7 +1,6 @@
 -- By the token that stands there.
 use Rattle.std.proofs.Common.{arith, inl}
 use Rattle.definitions.specs.Text.Tokens.{closing}
-use Rattle.terms.specs.Lexing.{name_of}
 use Rattle.terms.specs.Ranks.{ReadsArity}
 use Rattle.terms.proofs.LexemeLaws.{exactly_later, passed_on}
 use Rattle.terms.proofs.RankSteps.{arity_closes, sort_taken, arity_wrong, no_argument, last_closes, last_wrong}
@@ -17,7 +16,7 @@ returns-in-Closing c =
 
 pub returns-in-Bool : goal.returns-in-Bool
 returns-in-Bool c =
-    let no = no_argument c.args.text.now c.next-token.result.lexeme _ c.part_of.result c.part_of.ensures c.in-Bool.is in
+    let no = no_argument c.next-token.result.lexeme _ c.part_of.result c.part_of.ensures c.in-Bool.is in
     record {
       sound = tt;
       says = λ cs name r.
@@ -34,7 +33,7 @@ loop-arity-preserved c = (
 
 pub returns-in_err-closed : goal.returns-in_err-closed
 returns-in_err-closed c =
-    passed_on (ReadsArity c.args.text.now c.args.from (name_of c.args.text.now c.args.sort)) _ _ c.from_residual.ensures.1
+    passed_on (ReadsArity c.args.text.now c.args.from c.args.sort.now) _ _ c.from_residual.ensures.1
     (record {
       sound = tt;
       says = λ cs name r. last_wrong c.args.text.now _ cs name c.loop-arity.arity c.loop-arity.at (omega arith) (c.loop-arity.invariant.2 cs name r) c.in_err-closed.ensures.0;

@@ -18,7 +18,7 @@ returns-in-Bool c =
 
 pub returns-in-Closing : goal.returns-in-Closing
 returns-in-Closing c =
-    let no = no_result c.args.text.now c.next-token.result.lexeme _ c.part_of.result c.part_of.ensures c.in-Closing.is in
+    let no = no_result c.next-token.result.lexeme _ c.part_of.result c.part_of.ensures c.in-Closing.is in
     record {
       sound = tt;
       says = λ cs name k r. result_wrong c.args.text.now _ cs name k c.args.at c.next-token.result c.next-token.ensures r no.0 no.1;

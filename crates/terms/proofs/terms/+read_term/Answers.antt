@@ -1,7 +1,6 @@
 -- By what stands at the first token, and by what follows in the list of arguments. Assumes nothing.
 use Rattle.std.proofs.Common.{arith}
 use Rattle.std.proofs.lemmas.Result.{err_from_is_err_and}
-use Rattle.terms.proofs.LexemeLaws.{lexeme_fits}
 use Rattle.terms.proofs.ReadLaws.{reads_bare, reads_deep, reads_no_head, arguments_start, reads_wrong, reads_whole, reads_inner, arguments_more, less_left}
 use Rattle.terms.proofs.terms.+read_term.Goals as goal
 
@@ -33,13 +32,7 @@ pub read_term-requires : goal.read_term-requires
 read_term-requires t c =
     let so = c.loop-wanted.invariant in (
       omega (arith, c.decreases),
-      (
-        record {
-          token_inside = so.lexed.inside;
-          lexeme_fits = lexeme_fits c.args.signature.text.now so.at c.loop-wanted.following c.loop-wanted.following.lexeme so.lexed.fits;
-        },
-        omega arith,
-      ),
+      (so.lexed.inside, omega arith),
     )
 
 pub returns-in_err-argument : goal.returns-in_err-argument

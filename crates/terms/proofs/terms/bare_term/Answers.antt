@@ -1,7 +1,7 @@
 -- By the symbol that stands there, and the head that it names. Assumes nothing.
 use Rattle.std.proofs.Common.{refl, ap, arith}
 use Rattle.definitions.specs.Text.Tokens.{symbol}
-use Rattle.terms.specs.Lexing.{name_of, lexeme_read}
+use Rattle.terms.specs.Lexing.{lexeme_read}
 use Rattle.problem.specs.Wanted.{sort_read}
 use Rattle.terms.proofs.OtherLexemes.{not_symbol}
 use Rattle.terms.proofs.RowLaws.{no_row_is}
@@ -17,7 +17,7 @@ returns-in_default c =
       sound = tt;
       says = λ levels q sn cs w row outer at wanted.
           nothing_bare text sn cs w row outer at wanted.reached t wanted.lexed (sort_read c.args.sort) wanted.wanted
-          (not_symbol text t.lexeme c.in_default.not-Symbol) wanted.unclosed q;
+          (not_symbol t.lexeme c.in_default.not-Symbol) wanted.unclosed q;
     }
 
 pub returns-in_default-head_of : goal.returns-in_default-head_of
@@ -28,14 +28,14 @@ returns-in_default-head_of c =
       sound = tt;
       says = λ levels q sn cs w row outer at wanted.
           bare_wrong text sn cs w row outer at wanted.reached t wanted.lexed (sort_read c.args.sort) wanted.wanted
-          (symbol (name_of text c.in-Symbol.name)) (ap (lexeme_read text) c.in-Symbol.is) refl refl (c.in_default-head_of.ensures.head sn cs wanted.symbols);
+          (symbol c.in-Symbol.name.now) (ap lexeme_read c.in-Symbol.is) refl refl (c.in_default-head_of.ensures.head sn cs wanted.symbols);
     }
 
 pub returns : goal.returns
 returns c =
     let text = c.args.signature.text.now in
     record {
-      sound = (omega arith, c.requires.token_inside);
+      sound = (omega arith, c.requires);
       says = λ levels q sn cs w row outer at wanted.
-          bare_read (name_of text c.in-Symbol.name) _ wanted (ap (lexeme_read text) c.in-Symbol.is) (c.in-Some.ensures.head sn cs wanted.symbols).0 (no_row_is c.new.ensures) c.finish.ensures;
+          bare_read c.in-Symbol.name.now _ wanted (ap lexeme_read c.in-Symbol.is) (c.in-Some.ensures.head sn cs wanted.symbols).0 (no_row_is c.new.ensures) c.finish.ensures;
     }

@@ -1,10 +1,9 @@
 -- By the opening bracket, and by the word behind it. Assumes nothing.
-use Rattle.std.proofs.Common.{sym, ap, ◌∙◌, subst, Ok, Err, arith}
+use Rattle.std.proofs.Common.{sym, ap, subst, Ok, Err, arith}
 use Rattle.definitions.specs.Text.Tokens.{opening}
 use Rattle.std.proofs.lemmas.Result.{err_from_is_err_and}
-use Rattle.terms.specs.Lexing.{name_of, lexeme_read, LexemeWithin}
+use Rattle.terms.specs.Lexing.{lexeme_read, LexemeWithin}
 use Rattle.terms.proofs.LexemeLaws.{exactly_later}
-use Rattle.text.specs.Commands.{command_of}
 use Rattle.text.proofs.CommandSteps.{command_opens, Chosen, word_read, no_command}
 use Rattle.text.proofs.commands.read_command.Goals as goal
 
@@ -27,12 +26,12 @@ returns-in-Some c =
     record {
       sound =
           let w = subst (LexemeWithin c.args.text.now c.in_ok-opened.opened c.next-token.result) c.in-Word.is c.next-token.ensures.fits in
-          (omega (arith, w.0, exactly_later c.args.text.now opening c.in_ok-opened.ensures.0), c.next-token.ensures.inside);
+          (omega (arith, w, exactly_later c.args.text.now opening c.in_ok-opened.ensures.0), c.next-token.ensures.inside);
       says = λ sn cs r.
           let there = command_opens c.args.text.now sn cs c.args.at (Ok c.in_ok-opened.opened) c.in_ok-opened.ensures.0 r in
           subst (Chosen c.args.text.now sn cs c.in_ok-opened.opened there c.next-token.result c.next-token.ensures)
-          (sym (c.in-Some.ensures ∙ ap command_of c.of.ensures))
-          (word_read c.args.text.now sn cs c.in_ok-opened.opened there c.next-token.result c.next-token.ensures (name_of c.args.text.now c.in-Word.name) (ap (lexeme_read c.args.text.now) c.in-Word.is));
+          (sym c.in-Some.ensures)
+          (word_read c.args.text.now sn cs c.in_ok-opened.opened there c.next-token.result c.next-token.ensures c.in-Word.name.now (ap lexeme_read c.in-Word.is));
     }
 
 pub returns-in-None : goal.returns-in-None
@@ -42,6 +41,6 @@ returns-in-None c =
       says = λ sn cs r.
           let there = command_opens c.args.text.now sn cs c.args.at (Ok c.in_ok-opened.opened) c.in_ok-opened.ensures.0 r in
           subst (Chosen c.args.text.now sn cs c.in_ok-opened.opened there c.next-token.result c.next-token.ensures)
-          (sym (c.in-None.ensures ∙ ap command_of c.of.ensures))
-          (word_read c.args.text.now sn cs c.in_ok-opened.opened there c.next-token.result c.next-token.ensures (name_of c.args.text.now c.in-Word.name) (ap (lexeme_read c.args.text.now) c.in-Word.is));
+          (sym c.in-None.ensures)
+          (word_read c.args.text.now sn cs c.in_ok-opened.opened there c.next-token.result c.next-token.ensures c.in-Word.name.now (ap lexeme_read c.in-Word.is));
     }

@@ -7,7 +7,7 @@ use Rattle.walk.proofs.cells.lay_slow.Goals as goal
 pub fill-requires : goal.fill-requires
 fill-requires c =
     let m : 16 * c.args.plan.now.parts.chunks * (3 + (c.args.plan.now.parts.fast + c.loop-j.j)) ≤ 16 * c.args.plan.now.parts.chunks * 42 = mul-le-mul_left (16 * c.args.plan.now.parts.chunks) (omega arith) in
-    let p = c.requires.0.parts_are.parted in
+    let p = c.args.plan.now.planned.parts_are.parted in
     let some = p.lanes_some in
     let fit = p.lanes_fit in
     (omega arith, p.chunks_few, omega arith)

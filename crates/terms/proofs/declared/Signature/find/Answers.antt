@@ -1,23 +1,18 @@
 -- The shelf is searched first, and where it does not have them all, the text. Both find the symbol that the commands declare.
 use Rattle.std.proofs.Common.{arith}
-use Rattle.terms.specs.Lexing.{name_of}
-use Rattle.terms.proofs.SymbolLaws.{shelf_taken, finds_in_text, finds_on_shelf, finds_nothing}
+use Rattle.terms.proofs.SymbolLaws.{finds_in_text, finds_on_shelf, finds_nothing}
 use Rattle.terms.proofs.declared.Signature.find.Goals as goal
-
-pub on_shelf-requires : goal.on_shelf-requires
-on_shelf-requires c =
-    let a = c.args in (shelf_taken a.self.text.now a.self.shelf.now c.min-held.result a.self.declared.count (omega arith) a.self.sound.sound, c.requires)
 
 pub returns-in-Some : goal.returns-in-Some
 returns-in-Some c =
     let a = c.args in
-    finds_on_shelf a.self.text.now a.self.shelf.now a.self.declared (name_of a.self.text.now a.name) c.min-held.result (omega arith) (omega arith) c.in-Some.number a.self.sound.sound
+    finds_on_shelf a.self.text.now a.self.shelf.now a.self.declared a.name.now c.min-held.result (omega arith) (omega arith) c.in-Some.number a.self.sound.sound
     c.in-Some.ensures
 
 pub returns-in-None : goal.returns-in-None
-returns-in-None c = let a = c.args in finds_in_text a.self.text.now a.self.shelf.now a.self.declared (name_of a.self.text.now a.name) c.find_in_text.result c.find_in_text.ensures
+returns-in-None c = let a = c.args in finds_in_text a.self.text.now a.self.shelf.now a.self.declared a.name.now c.find_in_text.result c.find_in_text.ensures
 
 pub returns-in-None-2 : goal.returns-in-None-2
 returns-in-None-2 c =
     let a = c.args in
-    finds_nothing a.self.text.now a.self.shelf.now a.self.declared (name_of a.self.text.now a.name) c.min-held.result (omega arith) (omega arith) c.if-held-self.false c.in-None-2.ensures
+    finds_nothing a.self.text.now a.self.shelf.now a.self.declared a.name.now c.min-held.result (omega arith) (omega arith) c.if-held-self.false c.in-None-2.ensures

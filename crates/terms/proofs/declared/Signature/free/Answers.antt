@@ -1,20 +1,18 @@
 -- By the three searches.
 use Rattle.std.proofs.Common.{ap, ◌∙◌, not}
-use Rattle.definitions.specs.Text.Grammar.{symbols_in, solvers_own}
-use Rattle.terms.specs.Lexing.{name_of}
-use Rattle.terms.specs.Named.{core_of}
+use Rattle.definitions.specs.Text.Grammar.{symbols_in}
 use Rattle.terms.proofs.SymbolLaws.{declared_taken, untaken}
 use Rattle.terms.proofs.declared.Signature.free.Goals as goal
 
 pub returns-then-is_some-2 : goal.returns-then-is_some-2
 returns-then-is_some-2 c =
     λ sn cs symbols.
-    declared_taken (symbols_in cs) (name_of c.args.self.text.now c.args.name) c.core.result (c.core.ensures ∙ ap core_of c.of.ensures) c.if-is_some.ensures c.find.result
+    declared_taken (symbols_in cs) c.args.name.now c.core.result c.core.ensures c.if-is_some.ensures c.find.result
     (c.find.ensures.known sn cs symbols) c.if-is_some-2.ensures
 
 pub returns : goal.returns
 returns c =
     λ sn cs symbols.
-    ap not (c.solvers_own.ensures ∙ ap solvers_own c.of-2.ensures)
-    ∙ untaken (symbols_in cs) (name_of c.args.self.text.now c.args.name) c.core.result (c.core.ensures ∙ ap core_of c.of.ensures) c.if-is_some.ensures c.find.result
+    ap not c.solvers_own.ensures
+    ∙ untaken (symbols_in cs) c.args.name.now c.core.result c.core.ensures c.if-is_some.ensures c.find.result
     (c.find.ensures.known sn cs symbols) c.if-is_some-2.ensures
