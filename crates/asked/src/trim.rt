@@ -15,8 +15,8 @@ use problem::head::Problem;
 use problem::put::{Node, lay, put_front};
 
 // The number of an operand, and 0 where the field is not in use.
-fn renumbered(numbers: &[u8], used: bool, operand: u16) -> u16
-    requires { (length numbers.now ≡ 256) × (used ≡ true → operand < 256) }
+fn renumbered(numbers: &[u8; 256], used: bool, operand: u16) -> u16
+    requires { used ≡ true → operand < 256 }
     ensures { result ≡ cond used (get_or numbers.now operand 0) 0 }
 {
     if used {
@@ -27,8 +27,14 @@ fn renumbered(numbers: &[u8], used: bool, operand: u16) -> u16
 }
 
 // Node k with its operands renumbered, after the count nodes already laid.
-fn lay_renumbered(problem: &Problem<'_>, k: usize, numbers: &[u8], nodes: &mut [u8], count: usize)
-    requires { Layout problem.now × (k < node_count problem.now) × (length numbers.now ≡ 256) × (8 * count + 8 ≤ length nodes.old) × (count < 256) }
+fn lay_renumbered(
+    problem: &Problem<'_>,
+    k: usize,
+    numbers: &[u8; 256],
+    nodes: &mut [u8],
+    count: usize,
+)
+    requires { Layout problem.now × (k < node_count problem.now) × (8 * count + 8 ≤ length nodes.old) × (count < 256) }
     ensures { Lays nodes.old nodes.new count (count + 1) (λ t. snoc t (renamed numbers.now problem.now k)) }
 {
     let node = problem.node(k);
@@ -43,8 +49,8 @@ fn lay_renumbered(problem: &Problem<'_>, k: usize, numbers: &[u8], nodes: &mut [
 }
 
 // The reached nodes, in order: the number of each node is how many reached ones stand before it.
-fn lay_reached(root: usize, problem: &Problem<'_>, marks: &[u8], nodes: &mut [u8])
-    requires { Named problem.now root × MarksAre (reached_of problem.now root) marks.now × (length marks.now ≡ 256) × (2048 ≤ length nodes.old) }
+fn lay_reached(root: usize, problem: &Problem<'_>, marks: &[u8; 256], nodes: &mut [u8])
+    requires { Named problem.now root × MarksAre (reached_of problem.now root) marks.now × (2048 ≤ length nodes.old) }
     ensures { nodes.new ≡ over (table_bytes (trim_of problem.now root)) nodes.old }
 {
     let mut numbers = [0u8; 256];
@@ -63,11 +69,11 @@ fn lay_reached(root: usize, problem: &Problem<'_>, marks: &[u8], nodes: &mut [u8
 pub fn trim<'a>(
     root: usize,
     problem: &Problem<'_>,
-    marks: &[u8],
+    marks: &[u8; 256],
     count: usize,
     room: &'a mut [u8; 2088],
 ) -> Problem<'a>
-    requires { Named problem.now root × MarksAre (reached_of problem.now root) marks.now × (length marks.now ≡ 256) × (count ≡ length (reached_of problem.now root)) }
+    requires { Named problem.now root × MarksAre (reached_of problem.now root) marks.now × (count ≡ length (reached_of problem.now root)) }
     ensures { result ≡ asked problem.now root }
 {
     let symbols = problem.symbols;

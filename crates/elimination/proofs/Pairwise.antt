@@ -1,5 +1,7 @@
 -- The condition that arguments are equal in pairs, one argument after the other. Assumes nothing.
-use Rattle.std.proofs.Common.{◌≡◌, ℕ, zero, suc, ◌+◌, ◌*◌, ◌≤◌, ◌<◌, List, [], ◌∷◌, length, get_or, take, refl, sym, ap, ◌∙◌, arith, add-one}
+use Rattle.std.proofs.Common.{◌≡◌, ℕ, zero, suc, ◌+◌, ◌*◌, ◌≤◌, ◌<◌, List, [], ◌∷◌, length, get_or, take, drop, refl, sym, ap, subst, ◌∙◌, arith, add-one}
+use lib.ListN.{length-drop}
+use lib.Seq.{drop-cons}
 use Rattle.definitions.specs.Lists.{snoc}
 use Rattle.definitions.specs.Problem.Node.{Node, plain}
 use Rattle.definitions.specs.Elimination.{further, condition}
@@ -40,3 +42,29 @@ conditioned_next {xs} {ys} {j = j} e c i l k p =
       reached = (let r = c.reached in omega arith);
       long = k ∙ c.long;
     }
+
+-- what is left of a list from its member j on
+module _ (xs : List ℕ) (j x : ℕ) (rest : List ℕ) (e : drop j xs ≡ x ∷ rest) where
+  member_is : j < length xs
+  member_is = omega (arith, ap length e, length-drop j xs)
+
+  opened : x ∷ rest ≡ get_or xs j 0 ∷ drop (suc j) xs
+  opened = sym e ∙ drop-cons xs j 0 member_is
+
+  first_is : x ≡ get_or xs j 0
+  first_is = ap (λ l. get_or l 0 0) opened
+
+  rest_is : rest ≡ drop (j + 1) xs
+  rest_is = ap (drop 1) opened ∙ ap (λ i. drop i xs) (sym (add-one j))
+
+pub paired_next : {xs ys before work after : List ℕ} {count at : ℕ} (j x y : ℕ) (xs' ys' : List ℕ) → length ys ≡ length xs
+    → Conditioned xs ys before count work at j → 1 ≤ j → drop j xs ≡ x ∷ xs' → drop j ys ≡ y ∷ ys' → length after ≡ length work
+    → Lays work after at (at + 2) (one_more x y)
+    → Conditioned xs ys before count after (at + 2) (j + 1) × (xs' ≡ drop (j + 1) xs) × (ys' ≡ drop (j + 1) ys)
+paired_next {xs} {ys} {before} {work} {after} {count} {at} j x y xs' ys' e c i p q k l = (
+  conditioned_next e c i (member_is xs j x xs' p) k
+      (subst (λ z. Lays work after at (at + 2) (one_more z (get_or ys j 0))) (first_is xs j x xs' p)
+      (subst (λ z. Lays work after at (at + 2) (one_more x z)) (first_is ys j y ys' q) l)),
+  rest_is xs j x xs' p,
+  rest_is ys j y ys' q,
+)

@@ -15,6 +15,7 @@ use problem::ops::Op;
 use problem::put::{Node, lay};
 
 // The op of a choice: between terms for a function, and between formulas for a predicate.
+// No `Op` parameter, here and in `next` and `count_one`: the definitions speak of the number, and an `Op` loses it at `Unknown`.
 fn choice_op(op: u8) -> Op
     ensures { byte_of result ≡ choice_op op }
 {

@@ -27,8 +27,8 @@ fn lay_condition(work: &mut [u8], count: usize, xs: &[u16], ys: &[u16]) -> usize
 {
     lay(work, count, Node::plain(Op::Equal, xs[0], ys[0], 0));
     let mut at = count + 1;
-    for j in 1..xs.len() {
-        lay_further(work, at, xs[j], ys[j]);
+    for (x, y) in xs[1..].iter().zip(&ys[1..]) {
+        lay_further(work, at, *x, *y);
         at += 2;
     }
     at

@@ -79,7 +79,8 @@ impl Laid {
         }
     }
 
-    // The image of an operand, 0 where the field is unused.
+    // The image of an operand, 0 where the field is unused. Not one generic function with the like ones of bytes in asked and decision:
+    // it would need a bound that gives the 0 of its type, and is no plainer.
     fn image(&self, used: bool, operand: u16) -> u16
         requires { used ≡ true → operand < 256 }
         ensures { result ≡ cond used (get_or self.now.images operand 0) 0 }

@@ -37,6 +37,7 @@ impl Line {
         &self.bytes[..self.len]
     }
 
+    // Room is asked for: where a line is made its length is known, and a `put` that can fail would need an answer in its place.
     pub fn put(&mut self, bytes: &[u8])
         requires { length self.old + length bytes.now ≤ 256 }
         ensures { self.new ≡ self.old ++ bytes.now }

@@ -68,11 +68,6 @@ length_nodes_of s = length_nodes_at s (8 + symbol_count s) (node_count s)
 pub inside_nodes : {p : Inside} {s : List ℕ} → Shaped p → p.bytes.now ≡ s → length (nodes_of s) ≡ p.nodes
 inside_nodes {s = s} w e = length_nodes_of s ∙ sym (ap node_count e) ∙ sym w.nodes_are
 
--- a node is a term or a formula
-pub formula_not_term : (s : Sort) → same_sort s formula ≡ not (same_sort s term)
-formula_not_term term = refl
-formula_not_term formula = refl
-
 -- up to three operand sorts, field by field
 pub operands_slots : (earlier : List Node) (ss : List Sort) (a b c : ℕ) → length ss ≤ 3
     → operands_right earlier ss (a ∷ b ∷ c ∷ [])

@@ -1,7 +1,7 @@
 -- What is left of a scan from node k on: the first node that is the same, the distinct applications. One more step either ends the
 -- scan or leaves what is left after it. Assumes nothing.
 use mathlib.Core.Path.{◌≡◌, refl, sym, ap, ◌∙◌}
-use Prim.Native.Nat.{ℕ, suc, ◌+◌, ◌≤◌, ◌<◌}
+use Prim.Native.Nat.{ℕ, zero, suc, ◌+◌, ◌≤◌, ◌<◌}
 use native.Mathlib.Numerals.{add-one}
 use native.Mathlib.Omega.{arith}
 use mathlib.Core.Bool.{Bool, true, false, not, ◌&&◌, ◌||◌, and-false, false≢true}
@@ -17,7 +17,7 @@ use Rattle.definitions.specs.Problem.Check.{distinct}
 use Rattle.theorems.proofs.Laws.Tests.{none≢some}
 use Rattle.theorems.proofs.Laws.Scans.{failing_from, fails_here, fails_later, fails_nowhere}
 use Rattle.std.specs.Prelude as std
-use Rattle.std.specs.Option.{is_some}
+use Rattle.std.specs.Option.{is_some, MatchOption}
 use Rattle.problem.specs.declared.put.Node as put
 use Rattle.problem.specs.Nodes.{node_read}
 use Rattle.problem.specs.Stages.{found_of, first_same}
@@ -126,3 +126,22 @@ module _ (op : ℕ) (t : List Node) where
 
   pub distinct_end : (k : ℕ) → length t ≤ k → distinct_from k ≡ 0
   distinct_end k h = ap (λ (ns : List Node). length (distinct op (take k t) ns)) (drop_of_length-le t h)
+
+-- what a search over the numbers below n finds is what a scan from the start finds
+module _
+    (n : ℕ) (Hit Missed : ℕ → Type 0) (from : ℕ → Option ℕ)
+    (ends : (k : ℕ) → k < n → Hit k → from k ≡ some k)
+    (goes_on : (k : ℕ) → k < n → Missed k → from k ≡ from (k + 1))
+    (runs-out : from n ≡ none) where
+  passed : (i : ℕ) → i ≤ n → ((k : ℕ) → 0 ≤ k → k < i → Missed k) → from 0 ≡ from i
+  passed zero h before = refl
+  passed (suc i) h before =
+      passed i (omega arith) (λ k l m. before k l (omega arith))
+      ∙ goes_on i (omega arith) (before i (omega arith) (omega arith)) ∙ ap from (add-one i)
+
+  pub scan_found : (r : std.Option ℕ)
+      → MatchOption r ((k : ℕ) → 0 ≤ k → k < n → Missed k)
+      (λ i. (0 ≤ i) × (i < n) × Hit i × ((k : ℕ) → 0 ≤ k → k < i → Missed k))
+      → found_of r ≡ from 0
+  scan_found std.None m = sym (passed n (omega arith) m ∙ runs-out)
+  scan_found (std.Some i) m = sym (passed i (omega (arith, m.1)) m.3 ∙ ends i m.1 m.2)

@@ -33,18 +33,14 @@ impl<'a> Problem<'a> {
         requires { k < node_count self.now }
         ensures { result ≡ same_sort (sort_of (op_of (node (nodes_of self.now) k).op)) term }
     {
-        Op::from(self.node(k).op).is_term()
+        self.has_sort(k, Sort::Term)
     }
 
-    #[tactic(auto, using(crate::proofs::NodeLaws::formula_not_term))]
     fn has_sort(&self, k: usize, sort: Sort) -> bool
         requires { k < node_count self.now }
         ensures { result ≡ same_sort (sort_of (op_of (node (nodes_of self.now) k).op)) (sort_read sort) }
     {
-        match sort {
-            Sort::Term => self.is_term(k),
-            Sort::Formula => !self.is_term(k),
-        }
+        Op::from(self.node(k).op).sort() == sort
     }
 
     // The arity of a symbol; 0 past the last.
@@ -109,12 +105,7 @@ impl<'a> Problem<'a> {
     pub fn first_wrong(&self) -> Option<usize>
         ensures { found_of result ≡ first_wrong (symbols_of self.now) [] (nodes_of self.now) }
     {
-        for k in 0..self.nodes {
-            if !self.node_right(k) {
-                return Some(k);
-            }
-        }
-        None
+        (0..self.nodes).find(|k| !self.node_right(*k))
     }
 }
 

@@ -1,7 +1,8 @@
 // The ops by name, in the order of their numbers (01, 'Problem bytes').
 ghost use Rattle.std.specs.Prelude.{◌≡◌};
-ghost use Rattle.definitions.specs.Problem.Ops.{op_of, sort_of, same_sort, term, is_app};
+ghost use Rattle.definitions.specs.Problem.Ops.{op_of, sort_of, is_app};
 ghost use Rattle.problem.specs.Ops.{op_read, byte_of};
+ghost use Rattle.problem.specs.Wanted.{sort_read};
 
 // What a node is; Unknown stands for every number that is no op's.
 #[derive(Clone, Copy, PartialEq, Eq)]
@@ -54,11 +55,14 @@ impl Op {
         self as u8
     }
 
-    // The ops of terms; the others are of formulas.
-    pub fn is_term(self) -> bool
-        ensures { result ≡ same_sort (sort_of (op_read self)) term }
+    // Some ops are of terms, and the others of formulas.
+    pub fn sort(self) -> Sort
+        ensures { sort_read result ≡ sort_of (op_read self) }
     {
-        matches!(self, Op::Apply | Op::Choose)
+        match self {
+            Op::Apply | Op::Choose => Sort::Term,
+            _ => Sort::Formula,
+        }
     }
 
     pub fn is_application(self) -> bool

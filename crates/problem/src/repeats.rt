@@ -25,18 +25,14 @@ impl<'a> Problem<'a> {
         ensures { found_of result ≡ first_same (node (nodes_of self.now) k) (take k (nodes_of self.now)) }
     {
         let node = self.node(k);
-        for j in 0..k {
-            if node == self.node(j) {
-                return Some(j);
-            }
-        }
-        None
+        (0..k).find(|j| node == self.node(*j))
     }
 
     // How many applications of an op are distinct: no earlier node is the same.
     pub fn distinct(&self, op: Op) -> usize
         ensures { result ≡ length (distinct (byte_of op) [] (nodes_of self.now)) }
     {
+        // No `filter(..).count()`: the definition keeps the nodes before at hand, and a `count_by` over the range did not close.
         let mut count = 0;
         for k in 0..self.nodes {
             if self.node(k).op == op.byte() && self.earliest(k).is_none() {

@@ -1,73 +1,113 @@
--- Laws of the lexer's three loops: what is passed and what is still to come make up the whole. Assumes nothing.
-use mathlib.Core.Path.{◌≡◌, refl, sym, ap, ap₂, ◌∙◌}
+-- Laws of the lexer: how far the bytes of a word go, and those between bars. Assumes nothing.
+use mathlib.Core.Path.{◌≡◌, refl, sym, ap, ◌∙◌}
 use Prim.Native.Nat.{ℕ, suc, ◌+◌, ◌-◌, ◌≤◌, ◌<◌}
-use native.Mathlib.Numerals.{add-one}
 use native.Mathlib.Omega.{arith}
-use mathlib.Core.Bool.{Bool, true, false}
-use mathlib.Core.List.{List, [], ◌∷◌, ◌++◌, append_assoc}
+use mathlib.Core.Bool.{Bool, true, false, false≢true}
+use mathlib.Core.List.{List, [], ◌∷◌}
+use mathlib.Core.Logic.{◌⊎◌, inl, inr}
 use mathlib.Core.Option.{Option, none, some}
 use lib.ListN.{length, get_or, take, drop, length-drop}
-use lib.Seq.{take-suc, get_or-drop}
+use lib.Seq.{get_or-drop}
 use lib.Dec.{eqb}
+use Rattle.std.proofs.lemmas.Bool.{eqb-true}
+use Rattle.std.proofs.lemmas.List.{get_or_past}
+use Rattle.std.specs.Prelude.{cond, Some, None}
+use Rattle.std.specs.Bool.{then_some}
+use Rattle.std.specs.List.{take_while}
+use Rattle.std.proofs.lemmas.List.Sums.{take_while-cons}
 use Rattle.definitions.specs.Text.Tokens.{word_byte, bar_byte, run, barred}
-use Rattle.terms.specs.Lexing.{between}
-use Rattle.terms.proofs.ByteLaws.{from_here}
+use Rattle.terms.specs.Lexing.{RunsTo, BarredTo}
 
--- one byte more
-pub between_more : (text : List ℕ) (from at : ℕ) → from ≤ at → at < length text
-    → between text from (at + 1) ≡ between text from at ++ (get_or text at 0 ∷ [])
-between_more text from at h k =
-    let one : at + 1 - from ≡ suc (at - from) = omega (arith, add-one (at - from)) in
-    let there : from + (at - from) ≡ at = omega arith in
-    let inside : at - from < length (drop from text) = omega (arith, length-drop from text) in
-    ap (λ (n : ℕ). take n (drop from text)) one
-    ∙ take-suc (drop from text) (at - from) 0 inside
-    ∙ ap (λ (b : ℕ). between text from at ++ (b ∷ [])) (get_or-drop from text (at - from) 0 ∙ ap (λ (n : ℕ). get_or text n 0) there)
+-- the bytes from the first on that are bytes of a word, and as many as they are
+run_passes : (xs : List ℕ) → run xs ≡ take_while word_byte xs
+run_passes [] = refl
+run_passes (x ∷ xs) = go (word_byte x) (run_passes xs) ∙ sym (take_while-cons word_byte x xs)
+  where
+    go : (b : Bool) → run xs ≡ take_while word_byte xs
+        → elim b as (λ _. List ℕ) [ true ↦ x ∷ run xs | false ↦ [] ] ≡ cond b (x ∷ take_while word_byte xs) []
+    go true e = ap (λ l. x ∷ l) e
+    go false e = refl
 
--- white space and comments: a byte that is passed counts one
-module _ (text : List ℕ) (at : ℕ) (h : at < length text) where
-  abbrev b : ℕ
-  b = get_or text at 0
+run_taken : (xs : List ℕ) → (run xs ≡ take (length (run xs)) xs) × (length (run xs) ≤ length xs)
+run_taken [] = (refl, omega arith)
+run_taken (x ∷ xs) = go (word_byte x) (run_taken xs)
+  where
+    go : (b : Bool) → (run xs ≡ take (length (run xs)) xs) × (length (run xs) ≤ length xs)
+        → let r = elim b as (λ _. List ℕ) [ true ↦ x ∷ run xs | false ↦ [] ] in (r ≡ take (length r) (x ∷ xs)) × (length r ≤ length (x ∷ xs))
+    go true e = (ap (λ l. x ∷ l) e.0, omega (arith, e.1))
+    go false e = (refl, omega arith)
 
-  abbrev bs : List ℕ
-  bs = drop (at + 1) text
+pub runs_to : (text : List ℕ) (from : ℕ) → from ≤ length text → (n : ℕ) → n ≡ length (take_while word_byte (drop from text))
+    → RunsTo text from (run (drop from text)) (from + n)
+runs_to text from h n e =
+    let m : n ≡ length (run (drop from text)) = e ∙ ap length (sym (run_passes (drop from text))) in
+    let t = run_taken (drop from text) in
+    let d = length-drop from text in
+    record {
+      bytes_are = t.0 ∙ ap (λ k. take k (drop from text)) (let z : length (run (drop from text)) ≡ from + n - from = omega (arith, m) in z);
+      onward = omega arith;
+      inside = omega (arith, m, t.1, d);
+    }
 
-  pub run_on : word_byte b ≡ true → run (drop at text) ≡ b ∷ run bs
-  run_on e = ap run (from_here text at h) ∙ ap (λ (t : Bool). elim t [ true ↦ b ∷ run bs | false ↦ [] ]) e
+-- the bytes that may stand between bars, from the first on, and the byte that ends them: no bar is one of them
+abbrev bars : List ℕ → ℕ
+bars [] = 0
+bars (x ∷ xs) = elim (bar_byte x) [ true ↦ suc (bars xs) | false ↦ 0 ]
 
-abbrev pub behind : List ℕ → Option (List ℕ) → Option (List ℕ)
-behind front none = none
-behind front (some name) = some (front ++ name)
+bars_passes : (xs : List ℕ) → bars xs ≡ length (take_while bar_byte xs)
+bars_passes [] = refl
+bars_passes (x ∷ xs) = go (bar_byte x) (bars_passes xs) ∙ ap length (sym (take_while-cons bar_byte x xs))
+  where
+    go : (b : Bool) → bars xs ≡ length (take_while bar_byte xs)
+        → elim b as (λ _. ℕ) [ true ↦ suc (bars xs) | false ↦ 0 ] ≡ length {A = ℕ} (cond b (x ∷ take_while bar_byte xs) [])
+    go true e = ap (λ (n : ℕ). suc n) e
+    go false e = refl
 
--- the bytes passed, with one more; and with none to come
-pub passed_more : (text : List ℕ) (from at : ℕ) → from ≤ at → at < length text → (rest : List ℕ)
-    → between text from at ++ (get_or text at 0 ∷ rest) ≡ between text from (at + 1) ++ rest
-passed_more text from at h k rest =
-    sym (append_assoc (between text from at) (get_or text at 0 ∷ []) rest) ∙ ap (λ (l : List ℕ). l ++ rest) (sym (between_more text from at h k))
+abbrev ended : List ℕ → ℕ → Option (List ℕ)
+ended xs n = elim (eqb (get_or xs n 0) 124) [ true ↦ some (take n xs) | false ↦ none ]
 
--- what stands up to the closing bar, by the byte at hand
-abbrev bar_by : ℕ → Option (List ℕ) → Bool → Bool → Option (List ℕ)
-bar_by b rest bar fine =
-    elim bar [
-      | true ↦ some []
-      | false ↦ elim fine [ true ↦ elim rest [ none ↦ none | some name ↦ some (b ∷ name) ] | false ↦ none ]
-    ]
+bars_end : (xs : List ℕ) → barred xs ≡ ended xs (bars xs)
+bars_end [] = refl
+bars_end (x ∷ xs) = go (eqb x 124) (bar_byte x) (bars_end xs) refl refl
+  where
+    push : (b : Bool) → elim (elim b as (λ _. Option (List ℕ)) [ true ↦ some (take (bars xs) xs) | false ↦ none ]) [ none ↦ none | some name ↦ some (x ∷ name) ]
+        ≡ elim b as (λ _. Option (List ℕ)) [ true ↦ some (x ∷ take (bars xs) xs) | false ↦ none ]
+    push true = refl
+    push false = refl
 
-module _ (text : List ℕ) (at : ℕ) (h : at < length text) where
-  barred_by : {bar fine : Bool} → eqb (get_or text at 0) 124 ≡ bar → bar_byte (get_or text at 0) ≡ fine
-      → barred (drop at text) ≡ bar_by (get_or text at 0) (barred (drop (at + 1) text)) bar fine
-  barred_by e f =
-      ap barred (from_here text at h) ∙ ap₂ {C = Option (List ℕ)} (bar_by (get_or text at 0) (barred (drop (at + 1) text))) e f
+    go : (bar fine : Bool) → barred xs ≡ ended xs (bars xs) → eqb x 124 ≡ bar → bar_byte x ≡ fine
+        → elim bar as (λ _. Option (List ℕ)) [
+          | true ↦ some []
+          | false ↦ elim fine as (λ _. Option (List ℕ)) [ true ↦ elim (barred xs) [ none ↦ none | some name ↦ some (x ∷ name) ] | false ↦ none ]
+        ]
+        ≡ ended (x ∷ xs) (elim fine as (λ _. ℕ) [ true ↦ suc (bars xs) | false ↦ 0 ])
+    go true true l e f = absurd (false≢true (sym (ap bar_byte (eqb-true x 124 e)) ∙ f))
+    go false true l e f = ap (λ (o : Option (List ℕ)). elim o as (λ _. Option (List ℕ)) [ none ↦ none | some name ↦ some (x ∷ name) ]) l ∙ push (eqb (get_or xs (bars xs) 0) 124)
+    go true false l e f = ap (λ (b : Bool). elim b as (λ _. Option (List ℕ)) [ true ↦ some [] | false ↦ none ]) (sym e)
+    go false false l e f = ap (λ (b : Bool). elim b as (λ _. Option (List ℕ)) [ true ↦ some [] | false ↦ none ]) (sym e)
 
-  pub bar_on : eqb (get_or text at 0) 124 ≡ false → bar_byte (get_or text at 0) ≡ true
-      → barred (drop at text) ≡ behind (get_or text at 0 ∷ []) (barred (drop (at + 1) text))
-  bar_on e f = barred_by e f ∙ go (barred (drop (at + 1) text))
-    where
-      go : (o : Option (List ℕ)) → bar_by (get_or text at 0) o false true ≡ behind (get_or text at 0 ∷ []) o
-      go none = refl
-      go (some name) = refl
+module _ (text : List ℕ) (from n : ℕ) (h : from ≤ length text) (e : n ≡ length (take_while bar_byte (drop from text))) where
+  ends_at : barred (drop from text) ≡ elim (eqb (get_or text (from + n) 0) 124) as (λ _. Option (List ℕ)) [ true ↦ some (take n (drop from text)) | false ↦ none ]
+  ends_at =
+      bars_end (drop from text)
+      ∙ ap (ended (drop from text)) (bars_passes (drop from text) ∙ sym e)
+      ∙ ap (λ (b : ℕ). elim (eqb b 124) as (λ _. Option (List ℕ)) [ true ↦ some (take n (drop from text)) | false ↦ none ]) (get_or-drop from text n 0)
 
-pub behind_more : (text : List ℕ) (from at : ℕ) → from ≤ at → at < length text → (o : Option (List ℕ))
-    → behind (between text from at) (behind (get_or text at 0 ∷ []) o) ≡ behind (between text from (at + 1)) o
-behind_more text from at h k none = refl
-behind_more text from at h k (some name) = ap some (passed_more text from at h k name)
+  bars_closed : from + n < length text → eqb (get_or text (from + n) 0) 124 ≡ true → BarredTo text from (Some (from + n))
+  bars_closed i b = (
+    ends_at
+        ∙ ap (λ (b : Bool). elim b as (λ _. Option (List ℕ)) [ true ↦ some (take n (drop from text)) | false ↦ none ]) b
+        ∙ ap (λ (k : ℕ). some (take k (drop from text))) (let z : n ≡ from + n - from = omega arith in z),
+    omega arith,
+    i,
+  )
+
+  bars_open : eqb (get_or text (from + n) 0) 124 ≡ false → BarredTo text from None
+  bars_open f = ends_at ∙ ap (λ (b : Bool). elim b as (λ _. Option (List ℕ)) [ true ↦ some (take n (drop from text)) | false ↦ none ]) f
+
+  pub bars_to : (b : Bool) → ((from + n < length text) × (b ≡ eqb (get_or text (from + n) 0) 124)) ⊎ ((length text ≤ from + n) × (b ≡ false))
+      → BarredTo text from (then_some b (from + n))
+  bars_to true (inl p) = bars_closed p.0 (sym p.1)
+  bars_to false (inl p) = bars_open (sym p.1)
+  bars_to true (inr p) = absurd (false≢true (sym p.1))
+  bars_to false (inr p) = bars_open (ap (λ (x : ℕ). eqb x 124) (get_or_past text (from + n) 0 p.0))

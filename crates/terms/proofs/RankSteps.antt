@@ -10,7 +10,7 @@ use mathlib.Core.Logic.{◌⊎◌, inl, inr}
 use mathlib.Core.Option.{Option, none, some}
 use lib.Dec.{ltb}
 use borrow.Author.Tests.{lt-ltb, le-ltb}
-use Rattle.std.specs.Prelude.{Ok, Err}
+use Rattle.std.specs.Prelude.{Ok, Err, Some}
 use Rattle.definitions.specs.Problem.Ops.{Sort, term, formula}
 use Rattle.definitions.specs.Text.Tokens.{closing, symbol, same_token}
 use Rattle.definitions.specs.Text.Tokens as tokens
@@ -20,10 +20,10 @@ use Rattle.definitions.specs.Text.Reader.{State, gave, unless_not, step}
 use Rattle.theorems.proofs.Text.Taken.Runs.{token_same}
 use Rattle.terms.specs.Lexing.{lexeme_read, Lexed}
 use Rattle.terms.specs.Reading.{Reached, WrongAt, is_token, Exactly}
-use Rattle.terms.specs.Ranks.{PartIs, in_taking, in_giving}
+use Rattle.terms.specs.Ranks.{SortIs, in_taking, in_giving}
+use Rattle.problem.specs.Wanted.{sort_read}
+use Rattle.problem.specs.declared.ops.Sort as code
 use Rattle.terms.specs.declared.exact.WrongToken.{WrongToken}
-use Rattle.terms.specs.declared.ranks.Part.{Part}
-use Rattle.terms.specs.declared.tokens.Lexeme.{Lexeme}
 use Rattle.terms.specs.declared.tokens.Token.{Token}
 use Rattle.terms.proofs.ReachLaws.{stepped, moves, wrong_here}
 use Rattle.terms.proofs.TermSteps.{same_swapped}
@@ -77,14 +77,18 @@ module _ (text sn : List ℕ) (cs : List Command) (name : List ℕ) (k at : ℕ)
         ap (λ (z : Bool). elim z as (λ _. Option State) [ true ↦ some (given term) | false ↦ unless_not (same_token x (symbol BOOL)) (given formula) ]) e
         ∙ ap (λ (z : Bool). elim b as (λ _. Option State) [ true ↦ some (given term) | false ↦ unless_not z (given formula) ]) f
 
-    pub sort_given : lexeme_read t.lexeme ≡ some (symbol sn) → Reached text (given term) t.next
+    sort_given : lexeme_read t.lexeme ≡ some (symbol sn) → Reached text (given term) t.next
     sort_given e = moves text (in_giving sn cs name k) at r t l (symbol sn) (given term) e (given_by (symbol sn) (token_same (symbol sn)) refl) (omega arith)
 
-    pub bool_given : lexeme_read t.lexeme ≡ some (symbol BOOL) → is_token (symbol sn) (lexeme_read t.lexeme) ≡ false
+    bool_given : lexeme_read t.lexeme ≡ some (symbol BOOL) → is_token (symbol sn) (lexeme_read t.lexeme) ≡ false
         → Reached text (given formula) t.next
     bool_given e f =
         moves text (in_giving sn cs name k) at r t l (symbol BOOL) (given formula) e
         (given_by (symbol BOOL) (same_swapped (symbol BOOL) (symbol sn) ∙ sym (ap (is_token (symbol sn)) e) ∙ f) (token_same (symbol BOOL))) (omega arith)
+
+    pub given_sort : (s : code.Sort) → SortIs t.lexeme sn (Some s) → Reached text (given (sort_read s)) t.next
+    given_sort code.Sort.Term e = sort_given e
+    given_sort code.Sort.Formula e = bool_given e.0 e.1
 
     pub result_wrong : is_token (symbol sn) (lexeme_read t.lexeme) ≡ false → is_token (symbol BOOL) (lexeme_read t.lexeme) ≡ false
         → WrongAt text t.place
@@ -93,16 +97,6 @@ module _ (text sn : List ℕ) (cs : List Command) (name : List ℕ) (k at : ℕ)
         go : (o : Option tokens.Token) → is_token (symbol sn) o ≡ false → is_token (symbol BOOL) o ≡ false → stepped (in_giving sn cs name k) o ≡ none
         go none p q = refl
         go (some x) p q = given_by x (same_swapped x (symbol sn) ∙ p) (same_swapped x (symbol BOOL) ∙ q)
-
--- neither a closing bracket nor the sort; neither the sort nor Bool
-module _ (l : Lexeme) (sn : List ℕ) (p : Part) (is : PartIs l sn p) where
-  pub no_argument : (p ≡ Part.Bool) ⊎ (p ≡ Part.Other) → (is_token closing (lexeme_read l) ≡ false) × (is_token (symbol sn) (lexeme_read l) ≡ false)
-  no_argument (inl e) = let b = subst (PartIs l sn) e is in (ap (is_token closing) b.0, b.1)
-  no_argument (inr e) = let b = subst (PartIs l sn) e is in (b.0, b.1)
-
-  pub no_result : (p ≡ Part.Closing) ⊎ (p ≡ Part.Other) → (is_token (symbol sn) (lexeme_read l) ≡ false) × (is_token (symbol BOOL) (lexeme_read l) ≡ false)
-  no_result (inl e) = let b = subst (PartIs l sn) e is in (ap (is_token (symbol sn)) b, ap (is_token (symbol BOOL)) b)
-  no_result (inr e) = let b = subst (PartIs l sn) e is in (b.1, b.2)
 
 -- after three arguments only the closing bracket will do
 module _ (text sn : List ℕ) (cs : List Command) (name : List ℕ) (k at : ℕ) (three : k ≡ 3) (r : Reached text (in_taking sn cs name k) at) where

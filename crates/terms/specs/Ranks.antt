@@ -1,25 +1,23 @@
 -- What reading a symbol's rank says (02, E1: "result that sort or Bool, at most three arguments of the sort"). Assumes nothing.
-use Rattle.std.specs.Prelude.{◌≡◌, ℕ, ◌≤◌, false, List, length, Result, Ok, Err}
+use Rattle.std.specs.Prelude.{◌≡◌, ℕ, ◌≤◌, false, List, length, Result, Ok, Err, Option, Some, None}
 use Rattle.std.proofs.Math.Option.{some}
-use Rattle.definitions.specs.Text.Tokens.{closing, symbol}
+use Rattle.definitions.specs.Text.Tokens.{symbol}
 use Rattle.definitions.specs.Text.Grammar.{Command, BOOL}
 use Rattle.definitions.specs.Text.Reader.{State, taking, giving, gave}
 use Rattle.terms.specs.Lexing.{lexeme_read}
 use Rattle.terms.specs.Reading.{Reached, WrongAt, is_token}
 use Rattle.problem.specs.Wanted.{sort_read}
+use Rattle.problem.specs.declared.ops.Sort.{Sort}
 use Rattle.terms.specs.declared.tokens.Lexeme.{Lexeme}
-use Rattle.terms.specs.declared.ranks.Part.{Part}
 use Rattle.terms.specs.declared.exact.WrongToken.{WrongToken}
 use Rattle.terms.specs.declared.declarations.Counted.{Counted}
 use Rattle.terms.specs.declared.ranks.Given.{Given}
 
--- a closing bracket, the sort, Bool, or none of them
-abbrev pub PartIs : Lexeme → List ℕ → Part → Type 0
-PartIs l sn Part.Closing = lexeme_read l ≡ some closing
-PartIs l sn Part.Sort = lexeme_read l ≡ some (symbol sn)
-PartIs l sn Part.Bool = (lexeme_read l ≡ some (symbol BOOL)) × (is_token (symbol sn) (lexeme_read l) ≡ false)
-PartIs l sn Part.Other =
-    (is_token closing (lexeme_read l) ≡ false) × (is_token (symbol sn) (lexeme_read l) ≡ false) × (is_token (symbol BOOL) (lexeme_read l) ≡ false)
+-- the sort, Bool, or none of them
+abbrev pub SortIs : Lexeme → List ℕ → Option Sort → Type 0
+SortIs l sn (Some Sort.Term) = lexeme_read l ≡ some (symbol sn)
+SortIs l sn (Some Sort.Formula) = (lexeme_read l ≡ some (symbol BOOL)) × (is_token (symbol sn) (lexeme_read l) ≡ false)
+SortIs l sn None = (is_token (symbol sn) (lexeme_read l) ≡ false) × (is_token (symbol BOOL) (lexeme_read l) ≡ false)
 
 -- a function of this name is declared with so many arguments so far; and its result may come
 abbrev pub in_taking : List ℕ → List Command → List ℕ → ℕ → State

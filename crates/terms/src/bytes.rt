@@ -1,6 +1,6 @@
 // The bytes of a text: which of them make a word, a gap or a name in bars.
 ghost use Rattle.std.specs.Prelude.{◌≡◌};
-ghost use Rattle.definitions.specs.Text.Tokens.{white_space, line_break, digit, word_byte, bar_byte};
+ghost use Rattle.definitions.specs.Text.Tokens.{white_space, line_break, word_byte, bar_byte};
 
 pub fn white(b: u8) -> bool
     ensures { result ≡ white_space b }
@@ -12,12 +12,6 @@ pub fn line_break(b: u8) -> bool
     ensures { result ≡ line_break b }
 {
     matches!(b, b'\n' | b'\r')
-}
-
-pub fn is_digit(b: u8) -> bool
-    ensures { result ≡ digit b }
-{
-    b.is_ascii_digit()
 }
 
 pub fn word_byte(b: u8) -> bool

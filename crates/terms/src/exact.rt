@@ -31,7 +31,7 @@ pub enum Due<'a> {
 }
 
 #[tactic(auto, using(crate::proofs::SameLaws::names))]
-fn is_due(lexeme: Lexeme<'_>, due: Due<'_>) -> bool
+pub fn is_due(lexeme: Lexeme<'_>, due: Due<'_>) -> bool
     ensures { result ≡ is_token (due_read due.entry) (lexeme_read lexeme.entry) }
 {
     match (due, lexeme) {

@@ -47,7 +47,8 @@ fn arity_in(byte: usize, sort: Sort) -> Option<usize>
     }
 }
 
-// The head that Core's name of a number gives.
+// The head that Core's name of a number gives: the number is the name's place in Core's table, as in the definition. An enum of the
+// ten would need a second table, from places to its variants.
 fn core_head(k: usize, sort: Sort, place: Place, inhabited: bool) -> Option<Head>
     ensures { CoreAt place sort inhabited k result }
 {

@@ -2,21 +2,12 @@
 ghost use Rattle.std.specs.Prelude.{◌≡◌, ◌≤◌, length};
 ghost use Rattle.definitions.specs.Text.Nodes.{byte_of};
 ghost use Rattle.problem.specs.Wanted.{sort_read};
-ghost use Rattle.terms.specs.Ranks.{PartIs, ReadsArity, ReadsResult};
+ghost use Rattle.terms.specs.Ranks.{SortIs, ReadsArity, ReadsResult};
 
 use crate::declarations::Counted;
-use crate::exact::{Due, WrongToken, exact};
+use crate::exact::{Due, WrongToken, exact, is_due};
 use crate::tokens::{Lexeme, next};
 use problem::ops::Sort;
-
-// A token where a sort may stand.
-#[derive(Clone, Copy)]
-enum Part {
-    Closing,
-    Sort,
-    Bool,
-    Other,
-}
 
 // The sort of the result, and the offset behind it.
 #[derive(Clone, Copy)]
@@ -36,15 +27,15 @@ pub fn byte_of(arity: usize, given: Sort) -> usize
     }
 }
 
+// The sort that a token names, if it names one.
 #[tactic(auto, using(crate::proofs::SameLaws::names))]
-fn part_of(lexeme: Lexeme<'_>, sort: &[u8]) -> Part
-    ensures { PartIs lexeme.entry sort.now result }
+fn sort_of(lexeme: Lexeme<'_>, sort: &[u8]) -> Option<Sort>
+    ensures { SortIs lexeme.entry sort.now result }
 {
     match lexeme {
-        Lexeme::Closing => Part::Closing,
-        Lexeme::Symbol(name) if name == sort => Part::Sort,
-        Lexeme::Symbol(name) if name == b"Bool".as_slice() => Part::Bool,
-        _ => Part::Other,
+        Lexeme::Symbol(name) if name == sort => Some(Sort::Term),
+        Lexeme::Symbol(name) if name == b"Bool".as_slice() => Some(Sort::Formula),
+        _ => None,
     }
 }
 
@@ -56,16 +47,16 @@ pub fn read_arity(text: &[u8], from: usize, sort: &[u8]) -> Result<Counted, Wron
     let mut at = from;
     for arity in 0..3 {
         let token = next(text, at);
-        match part_of(token.lexeme, sort) {
-            Part::Closing => {
-                return Ok(Counted {
-                    arity,
-                    next: token.next,
-                });
-            }
-            Part::Sort => at = token.next,
-            Part::Bool | Part::Other => return Err(WrongToken(token.place)),
+        if is_due(token.lexeme, Due::Closing) {
+            return Ok(Counted {
+                arity,
+                next: token.next,
+            });
         }
+        if !is_due(token.lexeme, Due::Symbol(sort)) {
+            return Err(WrongToken(token.place));
+        }
+        at = token.next;
     }
     let closed = exact(text, at, Due::Closing)?;
     Ok(Counted {
@@ -79,15 +70,11 @@ pub fn read_result(text: &[u8], at: usize, sort: &[u8]) -> Result<Given, WrongTo
     ensures { ReadsResult text.now at sort.now result }
 {
     let token = next(text, at);
-    match part_of(token.lexeme, sort) {
-        Part::Sort => Ok(Given {
-            result: Sort::Term,
+    match sort_of(token.lexeme, sort) {
+        Some(result) => Ok(Given {
+            result,
             at: token.next,
         }),
-        Part::Bool => Ok(Given {
-            result: Sort::Formula,
-            at: token.next,
-        }),
-        Part::Closing | Part::Other => Err(WrongToken(token.place)),
+        None => Err(WrongToken(token.place)),
     }
 }

@@ -3,10 +3,11 @@ ghost use Rattle.std.specs.Prelude.{◌≡◌, ◌<◌, ◌≤◌, true, length,
 ghost use Rattle.definitions.specs.Text.Tokens.{word_byte, run};
 ghost use Rattle.terms.specs.Lexing.{BlankTo, RunsTo, BarredTo, numeral_read, bracket_read, TokenIs, Lexed};
 
-use crate::bytes::{bar_byte, is_digit, line_break, white, word_byte};
+use crate::bytes::{bar_byte, line_break, white, word_byte};
 use crate::words::reserved;
 
-// A symbol and a word hold their name's bytes in the text, bars left out.
+// A symbol and a word hold their name's bytes in the text, bars left out. Wrong is the kind of a token that is none, and no failure:
+// whoever asks for a token refuses it as one of another kind.
 #[derive(Clone, Copy, PartialEq, Eq)]
 pub enum Lexeme<'a> {
     End,
@@ -32,14 +33,13 @@ fn blank_end(text: &[u8], from: usize) -> usize
     ensures { BlankTo text.now from result }
 {
     let mut comment = false;
-    for at in from..text.len() {
-        let b = text[at];
+    for (passed, b) in text[from..].iter().enumerate() {
         if comment {
-            comment = !line_break(b);
-        } else if b == b';' {
+            comment = !line_break(*b);
+        } else if *b == b';' {
             comment = true;
-        } else if !white(b) {
-            return at;
+        } else if !white(*b) {
+            return from + passed;
         }
     }
     text.len()
@@ -50,12 +50,7 @@ fn word_end(text: &[u8], from: usize) -> usize
     requires { from ≤ length text.now }
     ensures { RunsTo text.now from (run (drop from text.now)) result }
 {
-    for at in from..text.len() {
-        if !word_byte(text[at]) {
-            return at;
-        }
-    }
-    text.len()
+    from + text[from..].iter().take_while(|b| word_byte(**b)).count()
 }
 
 // Where the closing bar stands, if the bars are closed and hold no other byte.
@@ -63,16 +58,8 @@ fn bar_end(text: &[u8], from: usize) -> Option<usize>
     requires { from ≤ length text.now }
     ensures { BarredTo text.now from result }
 {
-    for at in from..text.len() {
-        let b = text[at];
-        if b == b'|' {
-            return Some(at);
-        }
-        if !bar_byte(b) {
-            return None;
-        }
-    }
-    None
+    let at = from + text[from..].iter().take_while(|b| bar_byte(**b)).count();
+    (at < text.len() && text[at] == b'|').then_some(at)
 }
 
 // A word: a numeral is a token only if it is exactly 0, and a reserved word is no symbol.
@@ -82,7 +69,7 @@ fn word_token(text: &[u8], place: usize) -> Token<'_>
 {
     let next = word_end(text, place);
     let name = &text[place..next];
-    let lexeme = if is_digit(text[place]) {
+    let lexeme = if text[place].is_ascii_digit() {
         numeral(name)
     } else if reserved(name) {
         Lexeme::Word(name)
@@ -138,7 +125,8 @@ fn byte_token(b: u8) -> Lexeme<'static>
     }
 }
 
-// The first token from an offset on.
+// The first token from an offset on. The offset is asked to be in the text, since the two go together nowhere else: a cursor of both
+// would be built anew for each token.
 pub fn next(text: &[u8], at: usize) -> Token<'_>
     requires { at ≤ length text.now }
     ensures { Lexed text.now at result }

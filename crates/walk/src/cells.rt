@@ -81,9 +81,9 @@ pub fn lay_slow(plan: &Plan, digits: &[u8], cells: &mut [u8])
 {
     let parts = plan.parts;
     let variables = plan.table.shape.variables;
-    for j in 0..digits.len() {
+    for (j, digit) in digits.iter().enumerate() {
         let v = parts.fast + j;
         let at = 16 * parts.chunks * (2 + v);
-        fill(cells, at, parts.chunks, digits[j] + least(variables, v));
+        fill(cells, at, parts.chunks, *digit + least(variables, v));
     }
 }

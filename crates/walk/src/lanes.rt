@@ -18,6 +18,7 @@ fn pick(cells: &[u8], left: usize, right: usize, same: usize, apart: usize) -> [
     ensures { Picked cells.now left right same apart result }
 {
     let mut lanes = [0; 16];
+    // An index into four places of one array: this is the hot loop, which each branch runs for each chunk of each block.
     for l in 0..16 {
         lanes[l] = taken(
             cells[left + l],

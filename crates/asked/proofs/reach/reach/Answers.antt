@@ -11,8 +11,7 @@ loop-k-preserved-then-marks-k-eq1 c =
     let up : l.k ≡ suc (l.k - 1) = omega arith in
     let v = subst (λ j. Walking c.args.problem.now c.args.root l.marks l.count j) up l.invariant.1 in (
       omega arith,
-      walk_marked c.requires.0 c.args.root c.requires.1 _ _ _ (l.k - 1) v c.if-marks-k-eq1.true c.mark_operands.ensures
-          (c.mark_operands.auto.marks ∙ l.invariant.1.long),
+      walk_marked c.requires.0 c.args.root c.requires.1 _ _ _ (l.k - 1) v c.if-marks-k-eq1.true c.mark_operands.ensures c.mark_operands.array_long,
     )
 
 pub loop-k-preserved : goal.loop-k-preserved

@@ -23,8 +23,7 @@ lay_renumbered-requires c =
     let b = c.loop-k.invariant.1 in (
       c.requires.0.table,
       omega (arith, length_nodes_of c.args.problem.now, c.requires.0.is_node),
-      c.if-mark-eq1.array_long,
-      omega (arith, v.kept, c.requires.3),
+      omega (arith, v.kept, c.requires.2),
       omega arith,
     )
 

@@ -7,15 +7,15 @@ use Rattle.asked.proofs.trim.lay_renumbered.Goals as goal
 
 pub renumbered-requires : goal.renumbered-requires
 renumbered-requires c =
-    (c.requires.2, read_small c.requires.0 c.args.k c.requires.1 (node_read c.node-node.result) c.node-node.ensures c.in_use-used.result c.in_use-used.ensures 0)
+    read_small c.requires.0 c.args.k c.requires.1 (node_read c.node-node.result) c.node-node.ensures c.in_use-used.result c.in_use-used.ensures 0
 
 pub renumbered-requires-2 : goal.renumbered-requires-2
 renumbered-requires-2 c =
-    (c.requires.2, read_small c.requires.0 c.args.k c.requires.1 (node_read c.node-node.result) c.node-node.ensures c.in_use-used.result c.in_use-used.ensures 1)
+    read_small c.requires.0 c.args.k c.requires.1 (node_read c.node-node.result) c.node-node.ensures c.in_use-used.result c.in_use-used.ensures 1
 
 pub renumbered-requires-3 : goal.renumbered-requires-3
 renumbered-requires-3 c =
-    (c.requires.2, read_small c.requires.0 c.args.k c.requires.1 (node_read c.node-node.result) c.node-node.ensures c.in_use-used.result c.in_use-used.ensures 2)
+    read_small c.requires.0 c.args.k c.requires.1 (node_read c.node-node.result) c.node-node.ensures c.in_use-used.result c.in_use-used.ensures 2
 
 pub returns : goal.returns
 returns c =

@@ -11,17 +11,17 @@ pub put_front-requires : goal.put_front-requires
 put_front-requires c = (
   omega arith,
   omega (arith, ap length c.symbol_bytes.ensures, symbols_length c.requires.0.table, c.requires.0.table.few_symbols),
-  omega (arith, c.requires.3, reached_few_of c.requires.0),
+  omega (arith, c.requires.2, reached_few_of c.requires.0),
 )
 
 pub overflow_mul-result : goal.overflow_mul-result
-overflow_mul-result c = omega (arith, c.requires.3, reached_few_of c.requires.0)
+overflow_mul-result c = omega (arith, c.requires.2, reached_few_of c.requires.0)
 
 pub overflow_add-result-2 : goal.overflow_add-result-2
-overflow_add-result-2 c = omega (arith, c.requires.3, reached_few_of c.requires.0, c.problem.invariant.few_symbols)
+overflow_add-result-2 c = omega (arith, c.requires.2, reached_few_of c.requires.0, c.problem.invariant.few_symbols)
 
 pub shared_ref_as_front-result : goal.shared_ref_as_front-result
-shared_ref_as_front-result c = omega (arith, c.requires.3, reached_few_of c.requires.0, c.problem.invariant.few_symbols)
+shared_ref_as_front-result c = omega (arith, c.requires.2, reached_few_of c.requires.0, c.problem.invariant.few_symbols)
 
 -- the front and the nodes are the problem asked
 module _ (c : goal.After-result-1) where
@@ -39,12 +39,12 @@ module _ (c : goal.After-result-1) where
   pub asked_is : take (8 + c.problem.inside.symbols + 8 * c.args.count)
       (put_mid (8 + c.problem.inside.symbols) (2088 - (8 + c.problem.inside.symbols)) c.put_front.new.whole c.lay_reached.new.nodes) ≡ asked s c.args.root
   asked_is =
-      trims_in c.requires.0 c.args.count c.requires.3 c.problem.inside.symbols symbols_are 2088 c.put_front.new.whole c.lay_reached.new.nodes
+      trims_in c.requires.0 c.args.count c.requires.2 c.problem.inside.symbols symbols_are 2088 c.put_front.new.whole c.lay_reached.new.nodes
       (c.put_front.auto.whole ∙ c.told-room) (omega (arith, c.problem.invariant.few_symbols)) front_is c.lay_reached.ensures
 
 pub invariant_of-result : goal.invariant_of-result
 invariant_of-result c =
-    asked_shape c.requires.0 c.args.count c.requires.3 _ (asked_is c) (symbols_are c) refl
+    asked_shape c.requires.0 c.args.count c.requires.2 _ (asked_is c) (symbols_are c) refl
 
 pub returns : goal.returns
 returns c = asked_is c

@@ -1,26 +1,25 @@
 -- By the token that stands there.
-use Rattle.std.proofs.Common.{arith, inl}
-use Rattle.definitions.specs.Text.Tokens.{closing}
+use Rattle.std.proofs.Common.{sym, arith, inl}
+use Rattle.definitions.specs.Text.Tokens.{closing, symbol}
 use Rattle.terms.specs.Ranks.{ReadsArity}
-use Rattle.terms.proofs.LexemeLaws.{exactly_later, passed_on}
-use Rattle.terms.proofs.RankSteps.{arity_closes, sort_taken, arity_wrong, no_argument, last_closes, last_wrong}
+use Rattle.terms.proofs.LexemeLaws.{token_is, exactly_later, passed_on}
+use Rattle.terms.proofs.RankSteps.{arity_closes, sort_taken, arity_wrong, last_closes, last_wrong}
 use Rattle.terms.proofs.ranks.read_arity.Goals as goal
 
-pub returns-in-Closing : goal.returns-in-Closing
-returns-in-Closing c =
+pub returns-then-is_due : goal.returns-then-is_due
+returns-then-is_due c =
     record {
       sound = (omega arith, c.next-token.ensures.inside, omega (arith, c.next-token.ensures.later));
       says = λ cs name r.
-          arity_closes c.args.text.now _ cs name c.loop-arity.arity c.loop-arity.at c.next-token.result c.next-token.ensures (c.loop-arity.invariant.2 cs name r) c.in-Closing.ensures;
+          arity_closes c.args.text.now _ cs name c.loop-arity.arity c.loop-arity.at c.next-token.result c.next-token.ensures (c.loop-arity.invariant.2 cs name r) (token_is closing _ (sym c.if-is_due.ensures));
     }
 
-pub returns-in-Bool : goal.returns-in-Bool
-returns-in-Bool c =
-    let no = no_argument c.next-token.result.lexeme _ c.part_of.result c.part_of.ensures c.in-Bool.is in
+pub returns-then-not-is_due : goal.returns-then-not-is_due
+returns-then-not-is_due c =
     record {
       sound = tt;
       says = λ cs name r.
-          arity_wrong c.args.text.now _ cs name c.loop-arity.arity c.loop-arity.at c.next-token.result c.next-token.ensures (c.loop-arity.invariant.2 cs name r) no.0 (inl no.1);
+          arity_wrong c.args.text.now _ cs name c.loop-arity.arity c.loop-arity.at c.next-token.result c.next-token.ensures (c.loop-arity.invariant.2 cs name r) (sym c.if-is_due.ensures) (inl (sym c.if-not-is_due.ensures));
     }
 
 pub loop-arity-preserved : goal.loop-arity-preserved
@@ -28,7 +27,7 @@ loop-arity-preserved c = (
   c.next-token.ensures.inside,
   omega (arith, c.next-token.ensures.later),
   λ cs name r.
-      sort_taken c.args.text.now _ cs name c.loop-arity.arity c.loop-arity.at c.next-token.result c.next-token.ensures (c.loop-arity.invariant.2 cs name r) c.in-Sort.ensures (omega arith),
+      sort_taken c.args.text.now _ cs name c.loop-arity.arity c.loop-arity.at c.next-token.result c.next-token.ensures (c.loop-arity.invariant.2 cs name r) (token_is (symbol c.args.sort.now) _ (sym c.if-not-is_due.ensures)) (omega arith),
 )
 
 pub returns-in_err-closed : goal.returns-in_err-closed

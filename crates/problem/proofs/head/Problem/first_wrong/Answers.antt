@@ -1,17 +1,23 @@
-use Rattle.std.proofs.Common.{◌<◌, length, sym, ◌∙◌, arith}
+use Rattle.std.proofs.Common.{rules, tests, ℕ, Bool, true, false, ◌≡◌, ◌<◌, take, length, sym, ◌∙◌, arith}
+use Rattle.std.proofs.lemmas.Iterator.{first_from_Range}
+use Rattle.definitions.specs.Problem.Node.{node}
+use Rattle.definitions.specs.Problem.Ops.{node_right}
 use Rattle.definitions.specs.Problem.Check.{symbols_of, nodes_of}
-use Rattle.theorems.proofs.Laws.Scans.{wrong_here, wrong_nowhere}
+use Rattle.theorems.proofs.Laws.Scans.{wrong_from, wrong_here, wrong_later, wrong_nowhere}
 use Rattle.problem.proofs.NodeLaws.{inside_nodes}
+use Rattle.problem.proofs.Scans.{scan_found}
 use Rattle.problem.proofs.head.Problem.first_wrong.Goals as goal
-
-pub returns-then-not-node_right : goal.returns-then-not-node_right
-returns-then-not-node_right c =
-    let s = c.args.self.now in
-    let here : c.loop-k.k < length (nodes_of s) = omega (arith, inside_nodes c.self.invariant c.self.view_is, c.loop-k-test.true) in
-    sym (c.loop-k.invariant ∙ wrong_here (symbols_of s) (nodes_of s) c.loop-k.k here (sym c.node_right.ensures ∙ c.if-not-node_right.true))
 
 pub returns : goal.returns
 returns c =
-    let s = c.args.self.now in
-    sym (c.loop-k.invariant
-    ∙ wrong_nowhere (symbols_of s) (nodes_of s) c.loop-k.k (omega (arith, inside_nodes c.self.invariant c.self.view_is, c.loop-k-test.false)))
+    let symbols = symbols_of c.args.self.now in
+    let t = nodes_of c.args.self.now in
+    let right : ℕ → Bool = λ k. node_right symbols (take k t) (node t k) in
+    let many = inside_nodes c.self.invariant c.self.view_is in
+    scan_found c.self.inside.nodes (λ k. right k ≡ false) (λ k. right k ≡ true) (wrong_from symbols t)
+    (λ k h e. wrong_here symbols t k (omega (arith, many, h)) e)
+    (λ k h e. wrong_later symbols t k (omega (arith, many, h)) e)
+    (wrong_nowhere symbols t c.self.inside.nodes (omega (arith, many)))
+    c.find.result
+    (first_from_Range _ _ _ c.find.result (λ x. right x ≡ false) (λ x. right x ≡ true) c.find.ensures.ran
+    (λ x q k. search (rules, tests)) (λ x q k. search (rules, tests)))
