@@ -11,6 +11,7 @@ ghost use Rattle.problem.specs.Lays.{Lays};
 ghost use Rattle.asked.specs.Reached.{reached_of, MarksAre};
 ghost use Rattle.asked.specs.Trimming.{renamed, trim_of};
 
+use crate::reach::reach;
 use problem::head::Problem;
 use problem::put::{Node, lay, put_front};
 
@@ -66,19 +67,15 @@ fn lay_reached(root: usize, problem: &Problem<'_>, marks: &[u8; 256], nodes: &mu
 }
 
 // The problem asked goes to the start of a lent buffer: the front with the count of the reached nodes, and these nodes.
-pub fn trim<'a>(
-    root: usize,
-    problem: &Problem<'_>,
-    marks: &[u8; 256],
-    count: usize,
-    room: &'a mut [u8; 2088],
-) -> Problem<'a>
-    requires { Named problem.now root × MarksAre (reached_of problem.now root) marks.now × (count ≡ length (reached_of problem.now root)) }
+pub fn trim<'a>(root: usize, problem: &Problem<'_>, room: &'a mut [u8]) -> Problem<'a>
+    requires { Named problem.now root × (2088 ≤ length room.old) }
     ensures { result ≡ asked problem.now root }
 {
+    let mut marks = [0u8; 256];
+    let count = reach(root, problem, &mut marks);
     let symbols = problem.symbols;
     put_front(room, problem.symbol_bytes(), count);
-    lay_reached(root, problem, marks, &mut room[8 + symbols..]);
+    lay_reached(root, problem, &marks, &mut room[8 + symbols..]);
     Problem {
         bytes: &room[..8 + symbols + 8 * count],
         symbols,

@@ -26,11 +26,11 @@ use Rattle.theorems.proofs.Laws.Grown.{length_grown}
 use Rattle.theorems.proofs.Tables.Fixed.{Terms, operands_terms, right_at_lem}
 use Rattle.theorems.proofs.Elimination.OfAssignment.{built, built_value}
 use Rattle.theorems.proofs.Elimination.WellLaid.{AppPlaced, AllPlaced, apps_placed, image_within}
-use Rattle.elimination.specs.State.{state_at, no_app, app_at, noted, LaidAt, ImagesRead, three}
+use Rattle.elimination.specs.State.{state_at, no_app, app_at, noted, ImagesRead, three}
 use Rattle.elimination.specs.declared.laid.Laid.{Laid}
 use Rattle.elimination.proofs.Promising.{whole_state}
 use Rattle.elimination.proofs.Prefix.{nodes_length, apps_few}
-use Rattle.decision.specs.Rows.{row_of5, no_row, ValuesOf}
+use Rattle.decision.specs.Rows.{row_of5, no_row, Noted, ValuesOf}
 
 three_at : (xs : List ℕ) (j : ℕ) → j < 3 → get_or (three xs) j 0 ≡ get_or xs j 0
 three_at xs zero h = refl
@@ -137,11 +137,11 @@ module _ (s : List ℕ) (ok : Accepted s) where
           ]
 
 -- there are at most 40 rows
-pub rows_room : {s : List ℕ} → Accepted s → {l : Laid} → LaidAt s (node_count s) l → {i : ℕ} → i < l.count → i < 40
+pub rows_room : {s : List ℕ} → Accepted s → {l : Laid} → Noted s l → {i : ℕ} → i < l.count → i < 40
 rows_room {s} ok laid h = let a = apps_few s ok (node_count s) (omega arith) in let c = laid.count_is in omega arith
 
 -- the row of distinct application i, in node order
-module _ {s : List ℕ} (ok : Accepted s) {l : Laid} (laid : LaidAt s (node_count s) l) {i : ℕ} (h : i < l.count)
+module _ {s : List ℕ} (ok : Accepted s) {l : Laid} (laid : Noted s l) {i : ℕ} (h : i < l.count)
     {q : ℕ} (is_q : q ≡ (noted l i).node) where
   abbrev app : App
   app = app_at s (node_count s) i

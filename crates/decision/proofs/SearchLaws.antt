@@ -2,7 +2,7 @@
 use mathlib.Core.Path.{◌≡◌, sym, ap, ap₂, ◌∙◌, subst}
 use Prim.Native.Nat.{ℕ, ◌-◌, ◌≤◌, ◌<◌, min}
 use native.Mathlib.Omega.{arith}
-use mathlib.Core.Bool.{Bool}
+use mathlib.Core.Bool.{Bool, true, false}
 use mathlib.Core.List.{List, [], map}
 use lib.ListN.{length, get_or, take, replicate, length-append, length-replicate}
 use lib.Seq.{take_all}
@@ -22,7 +22,7 @@ use Rattle.theorems.proofs.Laws.Grown.{length_grown}
 use Rattle.theorems.proofs.Ranges.Adequate.{length_below}
 use Rattle.theorems.proofs.Truth.{root_within, root_formula}
 use Rattle.theorems.proofs.Fits.{how_many_le}
-use Rattle.theorems.specs.Searched.{AllTrue, FirstFalse}
+use Rattle.theorems.specs.Searched.{AllTrue}
 use Rattle.theorems.proofs.Search.Verdict.{valid_when, falsified_when, stopped_when}
 use Rattle.elimination.specs.declared.laid.Laid.{Laid}
 use Rattle.elimination.proofs.Promising.{nodes_laid_lem, root_laid}
@@ -31,7 +31,7 @@ use Rattle.ranges.specs.declared.Shape.{Shape}
 use Rattle.ranges.proofs.TopLaws.{padded_at, take_padded}
 use Rattle.ranges.proofs.Measuring.{table_read, functions_laid, predicates_laid}
 use Rattle.walk.specs.Digits.{ValuesAre, sizes_in}
-use Rattle.walk.specs.Walked.{root_true, RootIn}
+use Rattle.walk.specs.Walked.{root_true, RootIn, Ends}
 use Rattle.walk.specs.declared.odometer.Odometer.{Odometer}
 use Rattle.decision.specs.Rows.{ValuesOf}
 use Rattle.decision.specs.Searched.{Laying, SearchIs}
@@ -155,55 +155,59 @@ module _ {x : Scope} (L : Laying x) where
     limit_is : (budget : ℕ) → limit budget ≡ min budget places
     limit_is budget = ap (min budget) (places_same o same)
 
-    -- what the search answers, by what the walk finds
-    module _ (budget : ℕ) (witness : List ℕ) where
-      module _ (place : ℕ) (f : FirstFalse good (limit budget) place) where
-        found_false : outcome_of s budget ≡ falsified place
+    -- what the search answers, by how the walk ends
+    module _ (budget tried : ℕ) (witness : List ℕ) where
+      module _ (f : Ends good (limit budget) tried true) where
+        found_false : outcome_of s budget ≡ falsified tried
         unfolding outcome_of
         found_false =
             let n = L.places_are in
             let high = f.high in
             let most = limit_is budget in
-            falsified_when (true_at s) budget (product s) place
+            falsified_when (true_at s) budget (product s) tried
             (record {
               low = f.low;
               high = omega arith;
-              fails = sym (good_same place) ∙ f.fails;
+              fails = sym (good_same tried) ∙ f.fails;
               before = λ q a b. sym (good_same q) ∙ f.before q a b;
             })
             (omega arith)
 
-        pub answers_falsified : {written : ℕ} {witness' : List ℕ} → written ≡ length (witness_at s place)
-            → witness' ≡ over (witness_at s place) witness
-            → SearchIs budget s witness (record { verdict = Verdict.Falsified written; tried = place; product = places }) witness'
+        pub answers_falsified : {written : ℕ} {witness' : List ℕ} → written ≡ length (witness_at s tried)
+            → witness' ≡ over (witness_at s tried) witness
+            → SearchIs budget s witness (record { verdict = Verdict.Falsified written; tried = tried; product = places }) witness'
         answers_falsified w x =
             let e = found_false in
             record { answers = rw (e, L.places_are, w); witness_after_is = rw (e, x) }
 
-      module _ (f : AllTrue good (limit budget)) where
+      module _ (f : Ends good (limit budget) tried false) where
         all_true : AllTrue (true_at s) (limit budget)
-        all_true p a b = sym (good_same p) ∙ f p a b
+        all_true p a b = sym (good_same p) ∙ f.1 p a b
 
-        found_valid : places ≤ budget → (outcome_of s budget ≡ valid (product s))
+        found_valid : places ≤ budget → (outcome_of s budget ≡ valid tried)
         unfolding outcome_of
         found_valid h =
             let n = L.places_are in
+            let t = f.0 in
             let most = limit_is budget in
             let q : limit budget ≡ product s = omega arith in
             valid_when (true_at s) budget (product s) (omega arith) (subst (AllTrue (true_at s)) q all_true)
+            ∙ ap valid (let e : product s ≡ tried = omega arith in e)
 
         pub answers_valid : places ≤ budget
-            → SearchIs budget s witness (record { verdict = Verdict.Valid; tried = places; product = places }) witness
+            → SearchIs budget s witness (record { verdict = Verdict.Valid; tried = tried; product = places }) witness
         answers_valid h = let e = found_valid h in record { answers = rw (e, L.places_are); witness_after_is = rw e }
 
-        found_stopped : budget < places → (outcome_of s budget ≡ stopped budget)
+        found_stopped : budget < places → (outcome_of s budget ≡ stopped tried)
         unfolding outcome_of
         found_stopped h =
             let n = L.places_are in
+            let t = f.0 in
             let most = limit_is budget in
             let q : limit budget ≡ budget = omega arith in
             stopped_when (true_at s) budget (product s) (omega arith) (subst (AllTrue (true_at s)) q all_true)
+            ∙ ap stopped (let e : budget ≡ tried = omega arith in e)
 
         pub answers_stopped : budget < places
-            → SearchIs budget s witness (record { verdict = Verdict.Stopped; tried = budget; product = places }) witness
+            → SearchIs budget s witness (record { verdict = Verdict.Stopped; tried = tried; product = places }) witness
         answers_stopped h = let e = found_stopped h in record { answers = rw (e, L.places_are); witness_after_is = rw e }

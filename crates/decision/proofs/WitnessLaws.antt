@@ -17,21 +17,20 @@ use Rattle.theorems.proofs.Witness.ReadBack.{witness_length}
 use borrow.Rule.Slice.PartMut.{put_mid, mid_of}
 use Rattle.problem.proofs.Putting.{put_more}
 use Rattle.elimination.proofs.Prefix.{apps_few}
-use Rattle.elimination.specs.State.{LaidAt}
 use Rattle.elimination.specs.declared.laid.Laid.{Laid}
 use Rattle.problem.proofs.Laying.{concat_map_append}
-use Rattle.decision.specs.Rows.{no_row, head_bytes, ValuesOf, RowOf, WitnessWritten}
+use Rattle.decision.specs.Rows.{no_row, head_bytes, Noted, ValuesOf, RowOf, WitnessWritten}
 use Rattle.decision.proofs.RowLaws.{whole}
 
 -- there are as many rows as distinct applications
-pub rows_many : (s : List ℕ) (ok : Accepted s) (l : Laid) → LaidAt s (node_count s) l → (p : ℕ) → length (rows_at s p) ≡ l.count
+pub rows_many : (s : List ℕ) (ok : Accepted s) (l : Laid) → Noted s l → (p : ℕ) → length (rows_at s p) ≡ l.count
 unfolding rows_at eliminated
 rows_many s ok l laid p =
     let apps = (eliminated s).apps in
     length-map (reverse apps) (app_row (symbols_of s) (eliminated s).images (values_at s p)) ∙ length-reverse apps
     ∙ ap (λ (st : State). length st.apps) (sym (whole s ok)) ∙ sym laid.count_is
 
-pub rows_few : {s : List ℕ} → Accepted s → {l : Laid} → LaidAt s (node_count s) l → l.count ≤ 40
+pub rows_few : {s : List ℕ} → Accepted s → {l : Laid} → Noted s l → l.count ≤ 40
 rows_few {s} ok laid = omega (arith, laid.count_is, apps_few s ok (node_count s) (omega arith))
 
 rows_length : (rows : List Row) → length (concat_map row_bytes rows) ≡ 5 * length rows

@@ -8,7 +8,7 @@ ghost use Rattle.decision.specs.Searched.{Laying, SearchIs};
 
 use crate::start::odometer;
 use crate::witness::write_witness;
-use asked::{ask, counts};
+use asked::{asked_in, counts};
 use definitions::{Decision, Refusal, Verdict};
 use elimination::laid::Laid;
 use elimination::lay_table;
@@ -30,7 +30,7 @@ pub fn decide(
     ensures { DecidePromise budget root bytes.now work.old witness.old result work.new witness.new }
 {
     let mut room = [0; 2088];
-    let problem = ask(root, bytes, &mut room)?;
+    let problem = asked_in(root, bytes, &mut room)?;
     counts(&problem)?;
     if work.len() < 21056 {
         return Err(Refusal::ShortWork);
@@ -93,24 +93,19 @@ fn search_with<const N: usize>(scope: &Scope<'_, '_>, witness: &mut [u8]) -> Dec
     let product = scope.product;
     let root = usize::from(scope.laid.images[problem.nodes - 1]);
     let start = odometer(scope.tops, scope.table.shape);
-    match walk(scope.table, root, start, budget, &mut values) {
-        Some(place) => {
-            let written = write_witness(problem, scope.laid, &values, witness);
-            Decision {
-                verdict: Verdict::Falsified { written },
-                tried: place,
-                product,
-            }
-        }
-        None if product <= budget => Decision {
-            verdict: Verdict::Valid,
-            tried: product,
-            product,
-        },
-        None => Decision {
-            verdict: Verdict::Stopped,
-            tried: budget,
-            product,
-        },
+    let walked = walk(scope.table, root, start, budget, &mut values);
+    let tried = walked.tried;
+    let verdict = if walked.falsified {
+        let written = write_witness(problem, scope.laid, &values, witness);
+        Verdict::Falsified { written }
+    } else if product <= budget {
+        Verdict::Valid
+    } else {
+        Verdict::Stopped
+    };
+    Decision {
+        verdict,
+        tried,
+        product,
     }
 }

@@ -2,9 +2,7 @@
 ghost use Rattle.std.specs.Prelude.{◌≡◌, ◌+◌, ◌*◌, ◌<◌, ◌≤◌, length, get_or, cond};
 ghost use Rattle.definitions.specs.Operations.Buffers.{over};
 ghost use Rattle.theorems.proofs.Accepted.{Accepted};
-ghost use Rattle.definitions.specs.Problem.Check.{node_count};
-ghost use Rattle.elimination.specs.State.{LaidAt};
-ghost use Rattle.decision.specs.Rows.{RowOf, WitnessWritten};
+ghost use Rattle.decision.specs.Rows.{Noted, RowOf, WitnessWritten};
 
 use elimination::laid::Laid;
 use problem::bytes::put;
@@ -20,7 +18,7 @@ fn argument(values: &[u8], used: bool, image: u16) -> u8
 
 // Row i: the symbol, the values of the arguments' images, the value of the application's image.
 fn row(problem: &Problem<'_>, laid: &Laid, i: usize, values: &[u8]) -> [u8; 5]
-    requires { Accepted problem.now × LaidAt problem.now (node_count problem.now) laid.now × (i < laid.now.count) × (laid.now.nodes ≤ length values.now) }
+    requires { Accepted problem.now × Noted problem.now laid.now × (i < laid.now.count) × (laid.now.nodes ≤ length values.now) }
     ensures { RowOf problem.now i values.now result }
 {
     let application = usize::from(laid.applications[i].node);
@@ -39,7 +37,7 @@ fn row(problem: &Problem<'_>, laid: &Laid, i: usize, values: &[u8]) -> [u8; 5]
 // The whole witness; its length.
 #[tactic(auto, using(crate::proofs::WitnessLaws::rows_few))]
 pub fn write_witness(problem: &Problem<'_>, laid: &Laid, values: &[u8], witness: &mut [u8]) -> usize
-    requires { Accepted problem.now × LaidAt problem.now (node_count problem.now) laid.now × (laid.now.nodes ≤ length values.now) × (206 ≤ length witness.old) }
+    requires { Accepted problem.now × Noted problem.now laid.now × (laid.now.nodes ≤ length values.now) × (206 ≤ length witness.old) }
     ensures { WitnessWritten problem.now values.now witness.old result witness.new }
 {
     put(witness, &[b'E', b'Q', b'W', 1, 0, laid.count as u8]);

@@ -7,7 +7,7 @@ ghost use Rattle.theorems.proofs.Accepted.{Accepted};
 ghost use Rattle.elimination.specs.State.{LaidAt, StepLays, Taking, AllLaid};
 
 use crate::laid::Laid;
-use asked::{ask, counts};
+use asked::{asked_in, counts};
 use definitions::{Refusal, Table};
 use problem::head::Problem;
 use problem::ops::Op;
@@ -21,7 +21,7 @@ pub fn eliminate(root: usize, bytes: &[u8], work: &mut [u8]) -> Result<Table, Re
     ensures { EliminatePromise root bytes.now work.old result work.new }
 {
     let mut room = [0u8; 2088];
-    let problem = ask(root, bytes, &mut room)?;
+    let problem = asked_in(root, bytes, &mut room)?;
     counts(&problem)?;
     if work.len() < 21056 {
         return Err(Refusal::ShortWork);

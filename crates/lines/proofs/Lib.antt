@@ -1,3 +1,3 @@
 mod Decimal
-mod Answering
+pub mod Answering
 pub mod Reading

@@ -19,8 +19,8 @@ fn word_of(verdict: Verdict) -> &'static [u8]
 }
 
 // A word, which has its space, and two numbers.
-fn put_three(line: &mut Line, name: &[u8], a: u64, b: u64)
-    requires { length line.old + length name.now + 42 ≤ 256 }
+fn put_three<const N: usize>(line: &mut Line<N>, name: &[u8], a: u64, b: u64)
+    requires { length line.old + length name.now + 42 ≤ N }
     ensures three { line.new ≡ line.old ++ name.now ++ word (decimal a) ++ word (decimal b) }
     ensures short { length line.new ≤ length line.old + length name.now + 42 }
 {
@@ -29,8 +29,8 @@ fn put_three(line: &mut Line, name: &[u8], a: u64, b: u64)
     line.put_number(b);
 }
 
-pub fn put_answer(line: &mut Line, answer: Result<Decision, Refusal>)
-    requires { length line.old + 52 ≤ 256 }
+pub fn put_answer<const N: usize>(line: &mut Line<N>, answer: Result<Decision, Refusal>)
+    requires { length line.old + 52 ≤ N }
     ensures said { line.new ≡ line.old ++ said (decision_read answer) }
     ensures short { length line.new ≤ length line.old + 52 }
 {

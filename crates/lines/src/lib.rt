@@ -14,7 +14,7 @@ use problem::head::last_node;
 pub mod answer;
 pub mod line;
 
-pub fn title_line() -> Line
+pub fn title_line() -> Line<256>
     ensures { result ≡ line TITLE }
 {
     let mut title = Line::new();
@@ -29,7 +29,7 @@ pub fn job_line(
     problem: &[u8],
     work: &mut [u8; 21056],
     witness: &mut [u8; 206],
-) -> Line
+) -> Line<256>
     ensures { result ≡ job_line k budget problem.now }
 {
     let answer = decide(budget, last_node(problem), problem, work, witness);
@@ -49,7 +49,7 @@ pub enum Ending {
 }
 
 // The last line: CUT where the input ends inside a job, and END otherwise.
-pub fn closing_line(ending: Ending, jobs: u64) -> Line
+pub fn closing_line(ending: Ending, jobs: u64) -> Line<256>
     ensures { result ≡ closing (ending_word ending) jobs }
 {
     let mut line = Line::new();

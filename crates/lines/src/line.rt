@@ -1,4 +1,4 @@
-// A line as it is written: the bytes so far, of at most 256.
+// A line as it is written: the bytes so far, of at most N. The programs' lines have at most 256.
 ghost use Rattle.std.specs.Prelude.{◌≡◌, ◌+◌, ◌≤◌, [], ◌++◌, length};
 ghost use Rattle.definitions.specs.Night.{word, decimal};
 
@@ -6,27 +6,27 @@ use itoa::Buffer;
 use std::marker::Model;
 
 #[derive(Drop)]
-pub struct Line {
-    bytes: [u8; 256],
+pub struct Line<const N: usize> {
+    bytes: [u8; N],
     len: usize,
 }
 
-impl Model for Line {
+impl<const N: usize> Model for Line<N> {
     ghost use Rattle.std.specs.Prelude.{ℕ, List, ◌≤◌, take};
 
     ghost Value = { List ℕ };
 
     ghost view = { λ l. take l.len l.bytes };
 
-    ghost invariant = { λ l. l.len ≤ 256 };
+    ghost invariant = { λ l. l.len ≤ N };
 }
 
-impl Line {
-    pub fn new() -> Line
+impl<const N: usize> Line<N> {
+    pub fn new() -> Self
         ensures { result ≡ [] }
     {
         Line {
-            bytes: [0; 256],
+            bytes: [0; N],
             len: 0,
         }
     }
@@ -39,18 +39,19 @@ impl Line {
 
     // Room is asked for: where a line is made its length is known, and a `put` that can fail would need an answer in its place.
     pub fn put(&mut self, bytes: &[u8])
-        requires { length self.old + length bytes.now ≤ 256 }
+        requires { length self.old + length bytes.now ≤ N }
         ensures { self.new ≡ self.old ++ bytes.now }
     {
         let end = self.len + bytes.len();
-        self.bytes[self.len..end].copy_from_slice(bytes);
+        let room = &mut self.bytes[..];
+        room[self.len..end].copy_from_slice(bytes);
         self.len = end;
     }
 
     // The digits of a number. A 64-bit number has at most 20.
     #[tactic(auto, using(crate::proofs::Decimal::same_decimal))]
     pub fn put_digits(&mut self, n: u64)
-        requires { length self.old + 20 ≤ 256 }
+        requires { length self.old + 20 ≤ N }
         ensures digits { self.new ≡ self.old ++ decimal n }
         ensures short { length self.new ≤ length self.old + 20 }
     {
@@ -60,7 +61,7 @@ impl Line {
 
     // A space and a number.
     pub fn put_number(&mut self, n: u64)
-        requires { length self.old + 21 ≤ 256 }
+        requires { length self.old + 21 ≤ N }
         ensures number { self.new ≡ self.old ++ word (decimal n) }
         ensures short { length self.new ≤ length self.old + 21 }
     {

@@ -12,7 +12,7 @@ use std::io;
 use std::io::Read;
 
 // Writes a line whole at once.
-fn write_line(rt: &impl Print, line: &Line) -> io::Result<()> {
+fn write_line(rt: &impl Print, line: &Line<256>) -> io::Result<()> {
     rt.write_all(line.as_bytes())
 }
 

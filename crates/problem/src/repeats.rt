@@ -25,7 +25,14 @@ impl<'a> Problem<'a> {
         ensures { found_of result ≡ first_same (node (nodes_of self.now) k) (take k (nodes_of self.now)) }
     {
         let node = self.node(k);
-        (0..k).find(|j| node == self.node(*j))
+        'scan: {
+            for j in 0..k {
+                if node == self.node(j) {
+                    break 'scan Some(j);
+                }
+            }
+            None
+        }
     }
 
     // How many applications of an op are distinct: no earlier node is the same.

@@ -10,7 +10,7 @@ use crate::components::classes;
 use crate::leaves::leaf_sets;
 use crate::sizes::{multiplied, tops};
 use crate::table::FreeTable;
-use asked::{ask, counts};
+use asked::{asked_in, counts};
 use definitions::{Ranges, Refusal};
 use elimination::laid::Laid;
 use elimination::lay_table;
@@ -32,7 +32,7 @@ pub fn ranges(root: usize, bytes: &[u8], work: &mut [u8]) -> Result<Ranges, Refu
     ensures { RangesPromise root bytes.now work.old result work.new }
 {
     let mut room = [0; 2088];
-    let problem = ask(root, bytes, &mut room)?;
+    let problem = asked_in(root, bytes, &mut room)?;
     let truths = counts(&problem)?.predicates;
     if work.len() < 21056 {
         return Err(Refusal::ShortWork);

@@ -20,7 +20,7 @@ use std::rt::Files;
 use std::{fs, io, str};
 use text::read;
 
-fn write_line(rt: &impl Print, line: &Line) -> io::Result<()> {
+fn write_line(rt: &impl Print, line: &Line<256>) -> io::Result<()> {
     rt.write_all(line.as_bytes())
 }
 

@@ -1,5 +1,5 @@
-mod Budgets
-mod Counting
-mod Passing
+pub mod Budgets
+pub mod Counting
+pub mod Passing
 pub mod Declared
 pub mod Pieces

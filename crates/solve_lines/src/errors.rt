@@ -27,7 +27,7 @@ fn meaning(refusal: Refusal) -> &'static [u8]
 }
 
 // The line and the column of a refusal that has a place in the text.
-fn put_standing(line: &mut Line, text: &[u8], refusal: Refusal)
+fn put_standing(line: &mut Line<256>, text: &[u8], refusal: Refusal)
     requires { length line.old + 56 ≤ 256 }
     ensures standing { line.new ≡ line.old ++ standing_if (has_place (refusal_read refusal).number)
         (position_of text.now (refusal_read refusal).place) }
@@ -43,7 +43,7 @@ fn put_standing(line: &mut Line, text: &[u8], refusal: Refusal)
 }
 
 #[tactic(auto, unfolding(definitions::specs::Solve::error_line))]
-pub fn error_line(text: &[u8], refusal: Refusal) -> Line
+pub fn error_line(text: &[u8], refusal: Refusal) -> Line<256>
     ensures { result ≡ error_line text.now (refusal_read refusal) }
 {
     let mut line = Line::new();

@@ -19,7 +19,7 @@ pub mod rows;
 
 // The verdict's line, with the comment line of unknown; or the error line of a refusal.
 #[tactic(auto, unfolding(definitions::specs::Solve::answer_lines))]
-pub fn answer_lines(text: &[u8], answer: Result<Decision, Refusal>) -> Line
+pub fn answer_lines(text: &[u8], answer: Result<Decision, Refusal>) -> Line<256>
     ensures { result ≡ answer_lines text.now (decision_read answer) }
 {
     match answer {
@@ -29,7 +29,7 @@ pub fn answer_lines(text: &[u8], answer: Result<Decision, Refusal>) -> Line
 }
 
 // The verdict's line.
-fn verdict_lines(decision: Decision) -> Line
+fn verdict_lines(decision: Decision) -> Line<256>
     ensures { result ≡ verdict_lines (verdict_read decision.verdict) decision.tried decision.product }
 {
     match decision.verdict {
@@ -40,7 +40,7 @@ fn verdict_lines(decision: Decision) -> Line
 }
 
 // How many places were tried, and of how many.
-fn unknown_lines(tried: u64, product: u64) -> Line
+fn unknown_lines(tried: u64, product: u64) -> Line<256>
     ensures { result ≡ verdict_lines isStopped tried product }
 {
     let mut line = Line::new();
@@ -53,19 +53,19 @@ fn unknown_lines(tried: u64, product: u64) -> Line
 }
 
 // The error lines of the program itself.
-pub fn too_long_line() -> Line
+pub fn too_long_line() -> Line<256>
     ensures { result ≡ too_long }
 {
     fixed_line(b"(error \"the text is over 1048576 bytes\")\n")
 }
 
-pub fn budget_line() -> Line
+pub fn budget_line() -> Line<256>
     ensures { result ≡ bad_budget }
 {
     fixed_line(b"(error \"the budget is not a number of at most 19 digits\")\n")
 }
 
-fn fixed_line(bytes: &[u8]) -> Line
+fn fixed_line(bytes: &[u8]) -> Line<256>
     requires { length bytes.now ≤ 256 }
     ensures { result ≡ bytes.now }
 {

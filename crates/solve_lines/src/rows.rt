@@ -39,7 +39,7 @@ pub fn row_at(witness: &[u8], k: u8) -> Row
     }
 }
 
-fn put_bar(line: &mut Line, barred: bool)
+fn put_bar(line: &mut Line<256>, barred: bool)
     requires { length line.old + 1 ≤ 256 }
     ensures bar { line.new ≡ line.old ++ bar barred }
     ensures short { length line.new ≤ length line.old + 1 }
@@ -50,7 +50,7 @@ fn put_bar(line: &mut Line, barred: bool)
 }
 
 // One more argument, if there is one.
-fn put_another(line: &mut Line, more: bool, v: u8)
+fn put_another(line: &mut Line<256>, more: bool, v: u8)
     requires { length line.old + 22 ≤ 256 }
     ensures another { line.new ≡ line.old ++ another more v }
     ensures short { length line.new ≤ length line.old + 22 }
@@ -61,7 +61,7 @@ fn put_another(line: &mut Line, more: bool, v: u8)
     }
 }
 
-fn put_arguments(line: &mut Line, arity: u8, row: Row)
+fn put_arguments(line: &mut Line<256>, arity: u8, row: Row)
     requires { length line.old + 66 ≤ 256 }
     ensures arguments { line.new ≡ line.old ++ arguments arity (row_read row) }
     ensures short { length line.new ≤ length line.old + 66 }
@@ -77,7 +77,7 @@ fn put_arguments(line: &mut Line, arity: u8, row: Row)
 }
 
 // A function's value, or a predicate's, by the symbol's byte.
-fn put_value(line: &mut Line, byte: u8, v: u8)
+fn put_value(line: &mut Line<256>, byte: u8, v: u8)
     requires { length line.old + 20 ≤ 256 }
     ensures value { line.new ≡ line.old ++ value (is_function byte) v }
     ensures short { length line.new ≤ length line.old + 20 }
@@ -91,7 +91,7 @@ fn put_value(line: &mut Line, byte: u8, v: u8)
     }
 }
 
-pub fn row_start(barred: bool) -> Line
+pub fn row_start(barred: bool) -> Line<256>
     ensures { result ≡ row_start barred }
 {
     let mut line = Line::new();
@@ -100,7 +100,7 @@ pub fn row_start(barred: bool) -> Line
     line
 }
 
-pub fn row_end(barred: bool, byte: u8, row: Row) -> Line
+pub fn row_end(barred: bool, byte: u8, row: Row) -> Line<256>
     ensures { result ≡ row_end barred byte (row_read row) }
 {
     let mut line = Line::new();

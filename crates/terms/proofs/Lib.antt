@@ -22,6 +22,7 @@ pub mod TermRights
 pub mod TokenLaws
 pub mod TermSteps
 pub mod RankSteps
+pub mod AddLaws
 pub mod ArgumentLaws
 pub mod TermLaws
 pub mod TermLoops

@@ -235,8 +235,17 @@ module _ (symbols : List ℕ) (h : Head) (xs : List Tree) (t : List Node) (earli
             };
       })
 
+  pub arguments_earlier : Earlier symbols (arguments h xs (kept no_row t)).table
+  arguments_earlier = so_far.earlier
+
+  pub arguments_below : (let k = arguments h xs (kept no_row t) in RowBelow (length k.table) k.row)
+  arguments_below = so_far.below
+
   pub prepared_earlier : Earlier symbols (awaiting h xs t).table
   prepared_earlier = let k = arguments h xs (kept no_row t) in (prepared_below symbols h k.row k.table so_far).earlier
+
+  pub argument_earlier : (x : Tree) → Full symbols x → Earlier symbols (lay x (awaiting h xs t).table).table
+  argument_earlier x f = (lay_right symbols x (awaiting h xs t).table f prepared_earlier).earlier
 
   pub list_step : NoTwins t → ListStep symbols h xs t
   list_step twins = record { twins = awaiting_twins h xs t twins; earlier = prepared_earlier; adds = λ x. arguments_snoc h xs x t }

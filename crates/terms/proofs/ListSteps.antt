@@ -131,8 +131,14 @@ ask_on t n u p = grows_on t u (ask n u).table p (ask_grows n u)
 lay_on : (t : List Node) (x : Tree) (u : List Node) → Grows t u → Grows t (lay x u).table
 lay_on t x u p = grows_on t u (lay x u).table p (lay_extends x u)
 
+pub prepared_grows : (h : Head) (row : Row) (t : List Node) → Grows t (prepared h row t).table
+prepared_grows h row t = prepared_keeps (Grows t) (ask_on t) (lay_on t) h row t (grows_none t)
+
 pub added_grows : (h : Head) (row : Row) (k : ℕ) (t : List Node) → Grows t (added h row k t).table
 added_grows h row k t = added_keeps (Grows t) (ask_on t) (lay_on t) h row k t (grows_none t)
+
+pub argument_grows : (h : Head) (x : Tree) (k : Kept) → Grows k.table (argument h x k).table
+argument_grows h x k = argument_keeps (Grows k.table) (ask_on k.table) (lay_on k.table) h x k (grows_none k.table)
 
 pub arguments_grow : (h : Head) (xs : List Tree) (k : Kept) → Grows k.table (arguments h xs k).table
 arguments_grow h xs k = arguments_keep (Grows k.table) (ask_on k.table) (lay_on k.table) h xs k (grows_none k.table)
@@ -147,8 +153,14 @@ ended_grows h row t = ended_keeps (Grows t) (ask_on t) (lay_on t) h row t (grows
 pub prepared_twins : (h : Head) (row : Row) (t : List Node) → NoTwins t → NoTwins (prepared h row t).table
 prepared_twins h row t = prepared_keeps NoTwins ask_twins lay_twins h row t
 
+pub added_twins : (h : Head) (row : Row) (k : ℕ) (t : List Node) → NoTwins t → NoTwins (added h row k t).table
+added_twins h row k t = added_keeps NoTwins ask_twins lay_twins h row k t
+
 pub arguments_twins : (h : Head) (xs : List Tree) (k : Kept) → NoTwins k.table → NoTwins (arguments h xs k).table
 arguments_twins h xs k = arguments_keep NoTwins ask_twins lay_twins h xs k
+
+pub ended_twins : (h : Head) (row : Row) (t : List Node) → NoTwins t → NoTwins (ended h row t).table
+ended_twins h row t = ended_keeps NoTwins ask_twins lay_twins h row t
 
 -- every argument is counted
 pub prepared_seen : (h : Head) (row : Row) (t : List Node) → (prepared h row t).row.seen ≡ row.seen

@@ -1,7 +1,7 @@
 -- Names: a name is new if neither search finds it; what a search finds, and how that grows with one more symbol; and the names that
 -- right commands declare are new, each in its turn. Assumes nothing.
 use mathlib.Core.Path.{◌≡◌, refl, sym, ap, ap₂, ◌∙◌, subst}
-use Prim.Native.Nat.{ℕ, ◌<◌}
+use Prim.Native.Nat.{ℕ, suc, ◌+◌, ◌<◌}
 use native.Mathlib.Omega.{arith}
 use mathlib.Core.Bool.{Bool, true, false, not, ◌&&◌, ◌||◌, true≢false, or_assoc, or-false}
 use mathlib.Core.List.{List, [], ◌∷◌, ◌++◌}
@@ -19,7 +19,7 @@ use Rattle.theorems.proofs.Text.Taken.Runs.{same_bytes_lem}
 use Rattle.theorems.proofs.Text.Taken.Kept.Invariant.{after_all, after_all_lem}
 use Rattle.theorems.proofs.Text.Taken.Written.Resolve.{Fresh, fresh_snoc, name_among}
 use Rattle.problem.proofs.Scans.{any_none, any_some}
-use Rattle.terms.specs.Named.{core_of, resolve, is_some}
+use Rattle.terms.specs.Named.{core_of, resolve, is_some, or_next}
 
 -- a search finds something exactly if some member passes
 found_any : {A : Type 0} (f : A → Bool) (i : ℕ) (xs : List A) → is_some (first_failing (λ x. not (f x)) i xs) ≡ any f xs
@@ -92,6 +92,25 @@ module _ {A : Type 0} (f : A → Bool) (x : A) where
   abbrev search : ℕ → List A → Option ℕ
   search i xs = first_failing (λ z. not (f z)) i xs
 
+  search_snoc : (i : ℕ) (xs : List A) → search i (snoc xs x) ≡ or_next (search i xs) (f x) (i + length xs)
+  search_snoc i [] = go (f x) ∙ ap (or_next none (f x)) (omega arith)
+    where
+      go : (b : Bool) → ◌≡◌ {A = Option ℕ} (elim (not b) [ true ↦ none | false ↦ some i ]) (or_next none b i)
+      go true = refl
+      go false = refl
+  search_snoc i (z ∷ xs) = go (f z) (search_snoc (suc i) xs ∙ ap (or_next (search (suc i) xs) (f x)) (omega arith))
+    where
+      go : (b : Bool) → search (suc i) (snoc xs x) ≡ or_next (search (suc i) xs) (f x) (i + suc (length xs))
+          → ◌≡◌ {A = Option ℕ} (elim (not b) [ true ↦ search (suc i) (snoc xs x) | false ↦ some i ])
+          (or_next (elim (not b) [ true ↦ search (suc i) xs | false ↦ some i ]) (f x) (i + suc (length xs)))
+      go true e = refl
+      go false e = e
+
 module _ (sig : List Symbol) (y : Symbol) where
+  pub resolve_snoc : (name : List ℕ) → resolve (snoc sig y) name ≡ or_next (resolve sig name) (same_bytes name y.name) (length sig)
+  resolve_snoc name =
+      search_snoc (λ (z : Symbol). same_bytes name z.name) y 0 sig
+      ∙ ap (or_next (resolve sig name) (same_bytes name y.name)) (omega arith)
+
   pub inhabited_snoc : inhabited (snoc sig y) term ≡ (inhabited sig term || constant y)
   inhabited_snoc = any_append constant sig (y ∷ []) ∙ ap (λ (b : Bool). any constant sig || b) (or-false (constant y))

@@ -6,13 +6,14 @@ use native.Mathlib.Omega.{arith}
 use mathlib.Core.Bool.{Bool, true, false, true≢false}
 use mathlib.Core.List.{List, [], ◌∷◌, ◌++◌, reverse}
 use mathlib.Core.Logic.{inl}
-use lib.ListN.{length, set, get_or, take}
+use lib.ListN.{length, set, take}
 use Rattle.std.proofs.lemmas.List.{reverse-append}
-use lib.Seq.{take-suc, get_or-set_same, get_or-set_other}
+use lib.Seq.{get_or-set_same, get_or-set_other}
 use Rattle.std.specs.Prelude.{Option}
 use Rattle.definitions.specs.Problem.Node.{Node, plain}
 use Rattle.definitions.specs.Text.Nodes.{Laid, laid, ask}
 use Rattle.terms.specs.Laying.{over, standing, Performs}
+use Rattle.terms.specs.Listings.{waiting_reversed}
 use Rattle.terms.specs.Lists.{Row, Kept, no_row, pushed, negated, equated, disjoined}
 use Rattle.terms.specs.Rowing.{waiting_in, row_of, RowIs, Rows}
 use Rattle.terms.proofs.ListSteps.{Grows, grows_length, ask_grows, disjoined_grows}
@@ -150,13 +151,6 @@ pub negation_waits : {seen last joined w x : ℕ} (firsts pending : List ℕ) {t
     → Rows negating (row_of seen firsts last joined (waiting_in pending w)) t (row_of seen firsts last joined (waiting_in (set pending w x) (w + 1))) after
 negation_waits {seen} {last} {joined} {w} {x} firsts pending h some asking =
     one_waits (row_of seen firsts last joined (waiting_in pending w)) some asking (ap (row_of seen firsts last joined) (one_waiting pending w x h))
-
--- what waits stands in the code the other way round
-waiting_reversed : (pending : List ℕ) (n : ℕ) → n ≤ length pending → waiting_in pending n ≡ reverse (take n pending)
-waiting_reversed pending zero h = refl
-waiting_reversed pending (suc n) h =
-    ap {B = List ℕ} (λ ns. get_or pending n 0 ∷ ns) (waiting_reversed pending n (omega arith))
-    ∙ sym (ap reverse (take-suc pending n 0 (omega arith)) ∙ reverse-append (take n pending) (get_or pending n 0 ∷ []))
 
 -- what waits is joined from the last one on
 abbrev pub disjoining : List ℕ → ℕ → List Node → Laid

@@ -14,15 +14,18 @@ use Rattle.definitions.specs.Problem.Node.{Node, plain}
 use Rattle.definitions.specs.Problem.Check.{functions_in, predicates_in, Refused, refuse, refuse_if}
 use Rattle.definitions.specs.Text.Grammar.{Symbol, Head, Terms, end, Command, declare, assert, Script, symbols_in, asserts_in, commands_right, script_right}
 use Rattle.definitions.specs.Text.Reader.{put}
-use Rattle.definitions.specs.Text.Nodes.{Tree, operand, pair, leftward, head_tree, trees_of, Laid, laid, ask, lay, lay_all, joined, assert_trees, ended, nodes_of_trees, nodes_of_script, symbol_bytes, bytes_of_script, limits_of_script}
+use Rattle.definitions.specs.Text.Nodes.{Tree, absent, tree, operand, pair, leftward, head_tree, trees_of, Laid, laid, ask, lay, lay_all, joined, assert_trees, ended, nodes_of_trees, nodes_of_script, symbol_bytes, bytes_of_script, limits_of_script}
 use Rattle.theorems.specs.Origins.{NoTwins}
 use Rattle.theorems.proofs.Laws.Tests.{or_left, or_right}
-use Rattle.theorems.proofs.Text.Meant.Shared.{Earlier, ask_twins}
-use Rattle.theorems.proofs.Text.Meant.Laying.{all_earlier, all_twins}
+use Rattle.theorems.proofs.Laws.Ops.{AllBelow}
+use Rattle.theorems.proofs.Text.Meant.Shared.{Earlier, ask_given, ask_twins}
+use Rattle.theorems.proofs.Text.Meant.Laying.{Present, AllPresent, all_earlier, all_twins}
+use Rattle.theorems.proofs.Text.Meant.Bytes.{all_longer}
 use Rattle.theorems.proofs.Text.Meant.Again.{all_extends, nodes_extend}
 use Rattle.theorems.proofs.Text.Meant.Paired.{AllGood}
 use Rattle.theorems.proofs.Text.Meant.Reading.{anything, asserted, full_of}
 use Rattle.theorems.proofs.Text.Meant.Heights.{script_asserts}
+use Rattle.terms.proofs.TermRights.{present_of}
 use Rattle.terms.specs.Symbols.{symbol_byte}
 use Rattle.terms.specs.Scripts.{roots_of, joined_on, joined_roots, trees_in, table_after, roots_after, TooMuch}
 use Rattle.terms.proofs.ListSteps.{Grows, grows_none, grows_on, ask_grows}
@@ -98,6 +101,22 @@ module _ (cs : List Command) (r : Terms) where
   bytes_assert = ap symbol_bytes symbols_assert
 
 -- numbers of trees that are there are those of nodes
+number_inside : (x : Tree) (t : List Node) → Present x → (lay x t).number < length (lay x t).table
+number_inside absent t p = absurd p
+number_inside (tree op k a b c) t p =
+    let x = lay a t in
+    let y = lay b x.table in
+    let z = lay c y.table in
+    (ask_given (record { op = op; sym = k; a = x.number; b = y.number; c = z.number }) z.table).inside
+
+numbers_inside : (xs : List Tree) (t : List Node) → AllPresent xs → AllBelow (length (lay_all xs t)) (roots_of xs t)
+numbers_inside [] t p = tt
+numbers_inside (x ∷ xs) t p =
+    let u = (lay x t).table in
+    let more = all_longer xs u in
+    let here = number_inside x t p.0 in
+    (omega arith, numbers_inside xs u p.1)
+
 -- the table of the asserts of right commands, and their numbers
 no_nodes : NoTwins []
 no_nodes i j h g e = absurd (omega arith)
@@ -113,6 +132,9 @@ module _ (cs : List Command) (right : commands_right [] cs ≡ true) where
   table_earlier =
       let symbols = symbol_bytes (symbols_in cs) in
       all_earlier symbols (trees_in cs) [] (full_of anything symbols (trees_in cs) trees_good) (λ k h. absurd (omega arith))
+
+  pub roots_inside : AllBelow (length (table_after cs)) (roots_after cs)
+  roots_inside = numbers_inside (trees_in cs) [] (present_of (symbol_bytes (symbols_in cs)) (trees_in cs) trees_good)
 
 trees_counted : (cs : List Command) → length (trees_in cs) ≡ length (asserts_in cs)
 trees_counted cs = length-map (asserts_in cs) (λ r. operand (trees_of r) 0)

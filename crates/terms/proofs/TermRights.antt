@@ -46,7 +46,7 @@ use Rattle.definitions.specs.Text.Grammar.{
 use Rattle.definitions.specs.Text.Reader.{put}
 use Rattle.definitions.specs.Text.Nodes.{Tree, head_tree, trees_of, symbol_bytes}
 use Rattle.theorems.proofs.Laws.Tests.{and_left, and_right}
-use Rattle.theorems.proofs.Text.Meant.Laying.{AllPresent, Full, AllFull}
+use Rattle.theorems.proofs.Text.Meant.Laying.{Present, AllPresent, Full, AllFull}
 use Rattle.theorems.proofs.Text.Meant.Paired.{Good, AllGood, Fits, head_good}
 use Rattle.theorems.proofs.Text.Meant.Reading.{Small, anything, prefix_agrees, small_snoc, head_fits, row_good, full_of}
 use Rattle.theorems.proofs.Text.Taken.Kept.Invariant.{row_right, remaining}
@@ -109,6 +109,9 @@ module _ (sig : List Symbol) (small : Small sig) where
 
     pub term_full : Full (symbol_bytes sig) (head_tree h (trees_of args))
     term_full = good.0
+
+    pub term_present : Present (head_tree h (trees_of args))
+    term_present = good.1
 
   -- a row that is right as far as it goes
   so_far_good : (w : Wanted) (row : Terms) → row_right sig w row ≡ true → AllGood (symbol_bytes sig) (trees_of row)

@@ -1,13 +1,16 @@
 pub mod Declarations
 pub mod Laying
 pub mod Lexing
+pub mod Listings
 pub mod Lists
 pub mod Named
 pub mod Reading
 pub mod Rowing
 pub mod Symbols
+pub mod Tables
 pub mod Commands
 pub mod Terms
+pub mod Padded
 pub mod Ranks
 pub mod Scripts
 pub mod Functions

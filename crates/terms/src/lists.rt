@@ -1,10 +1,12 @@
 // A list of arguments, laid as it is read.
-ghost use Rattle.std.specs.Prelude.{◌≡◌, ℕ, suc, min, ◌<◌, ◌≤◌};
+ghost use Rattle.std.specs.Prelude.{◌≡◌, ℕ, suc, min, ◌<◌, ◌≤◌, length};
 ghost use Rattle.definitions.specs.Text.Nodes.{laid};
 ghost use Rattle.definitions.specs.Text.Nodes as trees;
 ghost use Rattle.problem.specs.Ops.{byte_of};
 ghost use Rattle.terms.specs.Laying.{Performs};
+ghost use Rattle.terms.specs.Listings.{firsts_back, pending_back, firsts_are, pending_are, waiting_is};
 ghost use Rattle.terms.specs.Lists.{Row, no_row, negated, prepared, joined_by, equated, joins, added, disjoined, fields};
+ghost use Rattle.terms.specs.Padded.{Filled};
 ghost use Rattle.terms.specs.Rowing.{waiting_in, row_of, Rows, Finishes, picked};
 ghost use Rattle.terms.specs.Heads.{head_read};
 
@@ -15,8 +17,8 @@ use problem::put::Node;
 use std::marker::Model;
 
 // What is kept of a list between two arguments: their count, up to three; the numbers of the first three and of the last; what and,
-// or and = have joined so far; and the negations of => that wait.
-#[derive(Drop)]
+// or and = have joined so far; and the negations of => that wait, with zeros past them.
+#[derive(Clone, Copy)]
 pub struct Listing {
     seen: usize,
     first: [u8; 3],
@@ -41,7 +43,25 @@ impl Model for Listing {
 
     ghost view = { λ l. row_of l.seen l.first l.last l.joined (waiting_in l.pending l.waiting) };
 
-    ghost invariant = { λ l. (l.seen ≤ 3) × (l.waiting ≤ 256) };
+    ghost invariant = { λ l. (l.seen ≤ 3) × (l.waiting ≤ 256) × (length l.first ≡ 3) × Filled 0 256 l.pending l.waiting };
+
+    ghost inverse = { λ r. record {
+      seen = r.seen;
+      first = firsts_back r;
+      last = r.last;
+      joined = r.joined;
+      pending = pending_back r.pending;
+      waiting = length r.pending;
+    } };
+
+    ghost inverse_ok = { λ l h i. record {
+      seen = l.seen;
+      first = firsts_are l.first h.2 i;
+      last = l.last;
+      joined = l.joined;
+      pending = pending_are l.pending l.waiting h.1 h.3 i;
+      waiting = waiting_is l.pending l.waiting i;
+    } };
 }
 
 impl Listing {

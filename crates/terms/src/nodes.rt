@@ -9,15 +9,16 @@ ghost use Rattle.definitions.specs.Operations.Buffers.{over};
 ghost use Rattle.problem.specs.Nodes.{node_read};
 ghost use Rattle.problem.specs.Ops.{byte_of};
 ghost use Rattle.problem.specs.Stages.{found_of};
+ghost use Rattle.terms.specs.Tables.{ZerosPast, nodes_back, nodes_are, count_is};
 ghost use Rattle.terms.specs.Laying.{table_of, FewCounted, standing, Performs, appended};
 
 use problem::ops::Op;
 use problem::put::{Node, put_node};
 use std::marker::Model;
 
-// The nodes that are laid, as many as the count says. There is none once more were asked for than a problem may have: then nothing is
-// laid any more.
-#[derive(Drop)]
+// The nodes that are laid, as many as the count says, and zeros past them. There is none once more were asked for than a problem may
+// have: then nothing is laid any more.
+#[derive(Clone, Copy)]
 pub struct Table {
     nodes: [Node; 256],
     count: Option<usize>,
@@ -28,22 +29,27 @@ impl Model for Table {
 
     ghost view = { λ t. table_of t.nodes t.count };
 
-    ghost invariant = { λ t. (length t.nodes ≡ 256) × FewCounted t.count };
+    ghost invariant = { λ t. (length t.nodes ≡ 256) × FewCounted t.count × ZerosPast t.nodes t.count };
+
+    ghost inverse = { λ t. record { nodes = nodes_back t; count = option_map length t } };
+
+    ghost inverse_ok = { λ t h i. record { nodes = nodes_are t.nodes t.count h.2 i; count = count_is t.nodes t.count h.1 h.2 i } };
 }
 
 // The number of the first of some nodes that is equal.
 fn find(nodes: &[Node], node: Node) -> Option<usize>
     ensures { found_of result ≡ place_of (node_read node) (map node_read nodes.now) }
 {
-    nodes.iter().position(|other| node == *other)
+    (0..nodes.len()).find(|k| node == nodes[*k])
 }
 
 impl Table {
+    // What stands past the count is all zeros, which are cleared at once.
     pub fn new() -> Self
         ensures { result ≡ Some [] }
     {
         Table {
-            nodes: [Node::plain(Op::Unknown, 0, 0, 0); 256],
+            nodes: [Node::plain(Op::Apply, 0, 0, 0); 256],
             count: Some(0),
         }
     }
@@ -56,11 +62,14 @@ impl Table {
         self.count
     }
 
-    // More is asked for than a problem may have.
+    // More is asked for than a problem may have. The nodes are cleared, so that a table says all that its memory holds, as a copy needs.
     pub fn give_up(&mut self)
         ensures { self.new ≡ None }
     {
-        self.count = None;
+        if self.count.is_some() {
+            self.nodes = [Node::plain(Op::Apply, 0, 0, 0); 256];
+            self.count = None;
+        }
     }
 
     // A node behind the others: its number, which says nothing where there is no room for the node.
@@ -71,7 +80,7 @@ impl Table {
             return 0;
         };
         if count == 256 {
-            self.count = None;
+            self.give_up();
             return 0;
         }
         self.nodes[count] = node;

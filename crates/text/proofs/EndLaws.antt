@@ -1,7 +1,7 @@
 -- Laws of a text's end: what joins the asserts, the one negation behind it, the limits, and what is answered then (02, E1).
 -- Assumes nothing.
 use mathlib.Core.Path.{◌≡◌, refl, sym, ap, ap₂, ◌∙◌, subst}
-use Prim.Native.Nat.{ℕ, ◌+◌, ◌*◌, ◌≤◌, ◌<◌}
+use Prim.Native.Nat.{zero, suc, ℕ, ◌+◌, ◌*◌, ◌≤◌, ◌<◌}
 use native.Mathlib.Numerals.{add-one}
 use native.Mathlib.Omega.{arith}
 use mathlib.Core.Bool.{Bool, true, false, true≢false}
@@ -64,28 +64,23 @@ joined_snoc : (rs : List ℕ) (r : ℕ) (l : Laid) → joined_on (snoc rs r) l �
 joined_snoc [] r l = refl
 joined_snoc (x ∷ rs) r l = joined_snoc rs r (ask (plain 4 l.number x 0) l.table)
 
-pub joins_one : {roots : List ℕ} (first : ℕ) (others : List ℕ) (i : ℕ) {t between after : code.Option (List Node)} {a r : ℕ} → roots ≡ first ∷ others
-    → i < length others → Performs (joined_roots (take (i + 1) roots)) t a between → Performs (ask (plain 4 a (get_or others i 0) 0)) between r after
-    → Performs (joined_roots (take (i + 1 + 1) roots)) t r after
-joins_one {roots} first others i {t} {between} {after} {a} {r} e h one next =
+pub joins_one : (roots : List ℕ) (i : ℕ) {t between after : code.Option (List Node)} {a r : ℕ} → 1 ≤ i → i < length roots
+    → Performs (joined_roots (take i roots)) t a between → Performs (ask (plain 4 a (get_or roots i 0) 0)) between r after
+    → Performs (joined_roots (take (i + 1) roots)) t r after
+joins_one [] i l h one next = absurd (omega arith)
+joins_one (first ∷ others) zero l h one next = absurd (omega arith)
+joins_one (first ∷ others) (suc i) {t} {between} {after} {a} {r} l h one next =
     subst (λ (rs : List ℕ). Performs (joined_roots rs) t r after) (sym later)
     (performs_as (λ k u. (sym (joined_snoc (take i others) x (laid first u))) k)
-    (one_after_another (joined_roots (first ∷ take i others)) (λ n. ask (plain 4 n x 0)) (λ n u. ask_grows (plain 4 n x 0) u)
-    (subst (λ (rs : List ℕ). Performs (joined_roots rs) t a between) now one)
-    next))
+    (one_after_another (joined_roots (first ∷ take i others)) (λ n. ask (plain 4 n x 0)) (λ n u. ask_grows (plain 4 n x 0) u) one next))
   where
     x : ℕ
     x = get_or others i 0
 
-    now : take (i + 1) roots ≡ first ∷ take i others
-    now = ap (take (i + 1)) e ∙ ap (λ (n : ℕ). take n (first ∷ others)) (add-one i)
-
-    later : take (i + 1 + 1) roots ≡ first ∷ snoc (take i others) x
+    later : take (suc i + 1) (first ∷ others) ≡ first ∷ snoc (take i others) x
     later =
-        ap (take (i + 1 + 1)) e
-        ∙ ap (λ (n : ℕ). take n (first ∷ others)) (add-one (i + 1))
-        ∙ ap (λ (n : ℕ). first ∷ take n others) (add-one i)
-        ∙ ap (λ (rs : List ℕ). first ∷ rs) (take-suc others i 0 h)
+        ap (λ (n : ℕ). take n (first ∷ others)) (add-one (suc i))
+        ∙ ap (λ (rs : List ℕ). first ∷ rs) (take-suc others i 0 (omega arith))
 
 -- what joins the asserts, and then the negation
 module _ (f : List Node → Laid) {t between after : code.Option (List Node)} {joined number : ℕ} (one : Performs f t joined between)

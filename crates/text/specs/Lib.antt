@@ -2,6 +2,7 @@ pub mod Asserting
 pub mod Bytes
 pub mod Checking
 pub mod Commands
+pub mod Declaring
 pub mod Ending
 pub mod Readable
 pub mod Scripted

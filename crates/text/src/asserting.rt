@@ -1,6 +1,5 @@
 // An assert: its term, and the bracket that closes it.
-ghost use Rattle.text.specs.Scripted.{Inside, WentOn};
-ghost use Rattle.text.specs.Asserting.{Keeps, in_asserting};
+ghost use Rattle.text.specs.Asserting.{Keeps, AssertAsked, ReadsAssert};
 
 use crate::scripts::Script;
 use definitions::Refusal;
@@ -27,8 +26,8 @@ pub fn read_assert<'a>(
     shelf: &[Shelved<'a>],
     script: &mut Script<'a>,
 ) -> Result<(), Refusal>
-    requires { Inside in_asserting text.now shelf.now script.old at }
-    ensures { WentOn text.now script.old.declared.command shelf.now script.new result }
+    requires { AssertAsked text.now at shelf.now script.old }
+    ensures { ReadsAssert text.now at shelf.now script.old result script.new }
 {
     let token = next(text, at);
     if let Lexeme::Closing = token.lexeme {

@@ -1,6 +1,5 @@
 // A function's declaration.
-ghost use Rattle.terms.specs.Functions.{in_declaring};
-ghost use Rattle.text.specs.Scripted.{Inside, WentOn};
+ghost use Rattle.text.specs.Declaring.{DeclareAsked, Declares};
 
 use crate::scripts::Script;
 use crate::shelving::shelve;
@@ -15,8 +14,8 @@ pub fn read_declaration<'a>(
     shelf: &mut [Shelved<'a>],
     script: &mut Script<'a>,
 ) -> Result<(), Refusal>
-    requires { Inside in_declaring text.now shelf.old script.old at }
-    ensures { WentOn text.now script.old.declared.command shelf.new script.new result }
+    requires { DeclareAsked text.now at shelf.old script.old }
+    ensures { Declares text.now at shelf.old script.old result shelf.new script.new }
 {
     let signature = Signature {
         text,

@@ -18,16 +18,15 @@ use terms::nodes::Table;
 use terms::whole::put_problem;
 
 // What joins the asserts; no assert counts as true.
-#[tactic(auto, using(crate::proofs::EndLaws::joins_one))]
 fn join(roots: &[u8], table: &mut Table) -> u8
     ensures { Performs (joined_roots roots.now) table.old result table.new }
 {
-    let Some((first, others)) = roots.split_first() else {
+    let Some(first) = roots.first() else {
         return table.pair(Op::Verum, 0, 0);
     };
     let mut joined = *first;
-    for root in others {
-        joined = table.pair(Op::Both, joined, *root);
+    for i in 1..roots.len() {
+        joined = table.pair(Op::Both, joined, roots[i]);
     }
     joined
 }

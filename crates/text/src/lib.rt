@@ -11,15 +11,15 @@ use definitions::Refusal;
 use terms::declared::Shelved;
 use terms::prologue::{Named, prologue};
 
-mod asserting;
-mod bytes;
-mod checking;
-mod commands;
-mod declaring;
-mod ending;
-mod scripts;
-mod shelving;
-mod whole;
+pub mod asserting;
+pub mod bytes;
+pub mod checking;
+pub mod commands;
+pub mod declaring;
+pub mod ending;
+pub mod scripts;
+pub mod shelving;
+pub mod whole;
 
 // The commands, from the first on, where the prologue is read, with a shelf for the symbols.
 fn read_with<'a>(
@@ -36,8 +36,7 @@ fn read_with<'a>(
     end(problem, &mut script)
 }
 
-// With a shelf of 4096 symbols, in a function of its own: a short text does not pay for so long a shelf. Not generic in the length: an
-// array of N structs that hold references gets no proof.
+// With a shelf of 4096 symbols. Not generic in the length: an array of N structs that hold references gets no proof.
 fn read_long<'a>(text: &'a [u8], problem: &mut [u8], named: Named<'a>) -> Result<usize, Refusal>
     requires { Readable text.now problem.old named }
     ensures { ReadPromise text.now problem.old result problem.new }
@@ -46,7 +45,17 @@ fn read_long<'a>(text: &'a [u8], problem: &mut [u8], named: Named<'a>) -> Result
     read_with(text, problem, named, &mut shelf)
 }
 
-// A text becomes a problem, or is refused. A short text needs but a small shelf: a declaration takes at least eighteen bytes.
+// With a shelf of 1024 symbols. To fill the long one takes longer than to read a text of some thousand bytes.
+fn read_middle<'a>(text: &'a [u8], problem: &mut [u8], named: Named<'a>) -> Result<usize, Refusal>
+    requires { Readable text.now problem.old named }
+    ensures { ReadPromise text.now problem.old result problem.new }
+{
+    let mut shelf = [Shelved { name: b"", byte: 0 }; 1024];
+    read_with(text, problem, named, &mut shelf)
+}
+
+// A text becomes a problem, or is refused. A declaration takes at least eighteen bytes, so a text needs no larger shelf than its length
+// allows, unless it is long.
 pub fn read(text: &[u8], problem: &mut [u8]) -> Result<usize, Refusal>
     ensures { ReadPromise text.now problem.old result problem.new }
 {
@@ -54,8 +63,11 @@ pub fn read(text: &[u8], problem: &mut [u8]) -> Result<usize, Refusal>
         return Err(Refusal::ShortProblem);
     }
     let named = prologue(text)?;
-    if text.len() >= 4608 {
+    if text.len() >= 18432 {
         return read_long(text, problem, named);
+    }
+    if text.len() >= 4608 {
+        return read_middle(text, problem, named);
     }
     let mut shelf = [Shelved { name: b"", byte: 0 }; 256];
     read_with(text, problem, named, &mut shelf)

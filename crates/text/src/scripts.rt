@@ -9,7 +9,7 @@ use terms::prologue::Named;
 
 // The declared symbols, with the offset of the next command; their bytes in the problem; the table of nodes; and the numbers of the
 // asserts' nodes.
-#[derive(Drop)]
+#[derive(Clone, Copy)]
 pub struct Script<'a> {
     pub declared: Declared<'a>,
     pub symbols: Bytes<32>,

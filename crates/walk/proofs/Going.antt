@@ -3,7 +3,7 @@ use mathlib.Core.Path.{◌≡◌, sym, ap, ap₂, ◌∙◌, subst}
 use Prim.Native.Nat.{ℕ, suc, ◌+◌, ◌*◌, ◌-◌, ◌≤◌, ◌<◌}
 use native.Mathlib.Nat.{mul-le-mul_left, mul-le-mul_right}
 use native.Mathlib.Omega.{arith}
-use mathlib.Core.Bool.{Bool}
+use mathlib.Core.Bool.{Bool, false}
 use mathlib.Core.List.{List, ◌++◌}
 use mathlib.Core.Logic.{inl, inr}
 use lib.ListN.{length, get_or, take}
@@ -24,7 +24,7 @@ use Rattle.blocks.proofs.Order.{start_inside}
 use Rattle.order.specs.Order.{level_in}
 use Rattle.walk.specs.Cells.{cell, least_of, SolvedFrom, SlowLaid}
 use Rattle.walk.proofs.Found.{FirstLane}
-use Rattle.std.specs.Prelude.{Some, None}
+use Rattle.std.specs.Prelude.{Option, Some, None}
 use Rattle.walk.specs.declared.plan.Plan.{Plan}
 use Rattle.walk.specs.declared.branches.Branch.{Branch}
 use Rattle.walk.specs.Digits.{NextIs, SlowIs, digits_of, sizes_in, fast_of, slow_of}
@@ -34,6 +34,7 @@ use Rattle.walk.specs.Laid.{LanesReady}
 use Rattle.walk.specs.Reading.{positions_in}
 use Rattle.walk.specs.Walked.{root_true}
 use Rattle.walk.specs.declared.odometer.Odometer.{Odometer}
+use Rattle.walk.specs.declared.odometer.Step.{Step}
 use Rattle.walk.specs.declared.split.Parts.{Parts}
 use Rattle.walk.proofs.Blocks.{digit_cell, digits_next, constant_solved, digits_solved, constant_laid, block_fresh, fresh_none, fresh_next}
 use Rattle.walk.proofs.Walking.{
@@ -58,6 +59,10 @@ in_use o xs e j h = sym (get_or-take o.count o.digits j 0 h) ∙ ap (λ (ys : Li
 
 pub count_length : (o : Odometer) → o.count ≡ length (sizes_in o)
 count_length o = let a = o.turning.few in let b = o.turning.sizes_long in sym (length-take-le o.count o.sizes (omega arith))
+
+-- what a step says, where it is known which digit turned
+pub turned_next : {o : Odometer} {r : Step} {t : Option ℕ} → r.turned ≡ t → NextIs o r.odometer r.turned → NextIs o r.odometer t
+turned_next {o} {r} e n = subst (NextIs o r.odometer) e n
 
 module _ (plan : Plan) (positions starts : List ℕ) (bs : List Branch) (set : Setting plan positions starts bs) where
   abbrev table : List ℕ
@@ -184,7 +189,7 @@ module _ (plan : Plan) (positions starts : List ℕ) (bs : List Branch) (set : S
       passes = let e = at in omega arith
 
       -- the odometer ends, and so does the walk
-      pub ends_there : NextIs now next' None → (vals : List ℕ) → PlanWalked plan budget vals None
+      pub ends_there : NextIs now next' None → (vals : List ℕ) → PlanWalked plan budget vals (record { tried = tried + many; falsified = false })
       ends_there n vals =
           let t : turning slow (digits_after slow q) ≡ length slow = sym moves ∙ n.turned_is ∙ now_count budget cells now tried from q w in
           let last : suc q ≡ product_of slow = topped_last slow (fine plan positions starts bs set) q w.block_inside (turning_topped slow (digits_after slow q) (digits_length slow q) t) in
@@ -276,7 +281,7 @@ module _ (plan : Plan) (positions starts : List ℕ) (bs : List Branch) (set : S
 
   -- the budget is used up
   pub ends_spent : (budget : ℕ) (cells : List ℕ) (now : Odometer) (tried from q : ℕ) → Walking plan positions budget cells now tried from q → budget ≤ tried → (vals : List ℕ)
-      → PlanWalked plan budget vals None
+      → PlanWalked plan budget vals (record { tried = tried; falsified = false })
   ends_spent budget cells now tried from q w h vals =
       let r = w.passed in
       let b = w.block_inside in

@@ -5,7 +5,7 @@ use Prim.Native.Nat.{ℕ, suc, ◌+◌, ◌*◌, ◌-◌, ◌≤◌, ◌<◌, mi
 use native.Mathlib.Nat.{min-le_left, min-le_right, le-min, mul-le-mul_right}
 use native.Mathlib.Omega.{arith}
 use native.Mathlib.Numerals.{add-one}
-use mathlib.Core.Bool.{Bool, true, false}
+use mathlib.Core.Bool.{Bool, true, false, false≢true}
 use mathlib.Core.List.{List, [], map, ◌++◌}
 use mathlib.Core.Logic.{◌⊎◌, inl, inr}
 use lib.ListN.{length, take, length-map, length-drop, take-append-drop, get_or-map}
@@ -28,7 +28,6 @@ use Rattle.blocks.proofs.Stays.{within_at}
 use Rattle.order.specs.Order.{level_in}
 use Rattle.walk.specs.Cells.{cell, LaneCopied}
 use Rattle.walk.proofs.Found.{FirstLane}
-use Rattle.std.specs.Prelude.{Some, None}
 use Rattle.walk.specs.declared.plan.Plan.{Plan}
 use Rattle.walk.specs.declared.branches.Branch.{Branch}
 use Rattle.walk.specs.Digits.{Digits, ValuesAre, value_in, sizes_in, fast_of, slow_of}
@@ -237,7 +236,7 @@ module _ (plan : Plan) (positions starts : List ℕ) (bs : List Branch) (set : S
       -- a false root: the walk ends
       pub falsifies : (budget : ℕ) → q < product_of slow → many ≤ budget - tried → lane < many → (vals : List ℕ) → nodes ≤ length vals
           → LaneCopied S pos after lane nodes vals
-          → WalkIs table s root o (min budget (product_of (sizes_in o))) vals (Some (tried + lane + 1))
+          → WalkIs table s root o (min budget (product_of (sizes_in o))) vals (record { tried = tried + lane + 1; falsified = true })
       falsifies budget low left h vals long copied =
           let u = place_inside q lane low (omega arith) in
           record {
@@ -248,12 +247,15 @@ module _ (plan : Plan) (positions starts : List ℕ) (bs : List Branch) (set : S
                   fails = subst (λ t. good (t + lane + 1) ≡ false) (sym at) (zero_false _ (sym (root_byte lane (omega arith)) ∙ found.there h));
                   before = λ n a b. held_more n a (omega arith);
                 };
-            values_are = values_place h vals long copied;
+            values_are = λ _. values_place h vals long copied;
           }
 
   -- all lanes that are looked at are true
   pub ends_true : (budget tried : ℕ) → tried ≤ budget → tried ≤ product_of ss → (budget ≤ tried) ⊎ (product_of ss ≤ tried) → AllTrue good tried → (vals : List ℕ)
-      → WalkIs table s root o (min budget (product_of (sizes_in o))) vals None
+      → WalkIs table s root o (min budget (product_of (sizes_in o))) vals (record { tried = tried; falsified = false })
   ends_true budget tried a b c held vals =
       let e : tried ≡ limit budget = least_is budget (product_of ss) tried a b c in
-      record { ends = λ n x y. held n x (omega arith); values_are = tt }
+      record {
+        ends = (e, λ n x y. held n x (omega arith));
+        values_are = λ f. absurd (false≢true f);
+      }

@@ -1,6 +1,6 @@
 -- What the walk keeps from block to block: the odometer of the slow digits stands at a block, all places before it are true, the
 -- digits' cells are laid for it, and the nodes before the tail are fresh already. Assumes nothing.
-use Rattle.std.specs.Prelude.{◌≡◌, ℕ, ◌+◌, ◌*◌, ◌≤◌, ◌<◌, min, List, Option, length, take}
+use Rattle.std.specs.Prelude.{◌≡◌, ℕ, ◌+◌, ◌*◌, ◌≤◌, ◌<◌, min, List, length, take}
 use Rattle.definitions.specs.Lists.{product_of}
 use Rattle.definitions.specs.Places.{digits_after}
 use Rattle.theorems.specs.Searched.{AllTrue}
@@ -11,12 +11,13 @@ use Rattle.walk.specs.Kept.{FreshBefore}
 use Rattle.walk.specs.Reading.{positions_in}
 use Rattle.walk.specs.Walked.{root_true, WalkIs}
 use Rattle.walk.specs.declared.Begun.{Begun}
+use Rattle.walk.specs.declared.Walked.{Walked}
 use Rattle.walk.specs.declared.plan.Plan.{Plan}
 use Rattle.walk.specs.declared.branches.Branch.{Branch}
 use Rattle.walk.specs.declared.odometer.Odometer.{Odometer}
 
 -- the walk of such a table: as many places as the budget allows
-abbrev pub PlanWalked : Plan → ℕ → List ℕ → Option ℕ → Type 0
+abbrev pub PlanWalked : Plan → ℕ → List ℕ → Walked → Type 0
 PlanWalked plan budget vals r =
     WalkIs plan.table.bytes.now plan.table.shape plan.root plan.start (min budget (product_of (sizes_in plan.start))) vals r
 

@@ -1,10 +1,11 @@
 // The cells of false, true and the digits.
 ghost use Rattle.std.specs.Prelude.{◌≡◌, ℕ, ◌+◌, ◌*◌, ◌%◌, ◌≤◌, ◌<◌, length, get_or};
 ghost use Rattle.walk.specs.Cells.{Filled, least_of, SlowLaid};
-ghost use Rattle.walk.specs.Digits.{fast_of};
+ghost use Rattle.walk.specs.Digits.{Parted, fast_of};
 ghost use Rattle.walk.specs.Laid.{DigitLaid, FastLaid, LanesReady};
 
-use crate::plan::Plan;
+use crate::odometer::Odometer;
+use crate::split::Parts;
 
 // The least value of a variable is 1, of a truth variable 0.
 fn least(variables: usize, v: usize) -> u8
@@ -48,14 +49,12 @@ fn lay_digit(cells: &mut [u8], at: usize, lanes: usize, run: usize, size: u8, le
 }
 
 // The fast digits, one after the other. A digit of a single value is one run.
-fn lay_fast(plan: &Plan, cells: &mut [u8])
-    requires { 16 * plan.now.parts.chunks * 43 ≤ length cells.old }
-    ensures { FastLaid (16 * plan.now.parts.chunks) plan.now.table.shape.variables (fast_of plan.now.start plan.now.parts) plan.now.parts.fast cells.old cells.new }
+fn lay_fast(variables: usize, parts: Parts, start: &Odometer, cells: &mut [u8])
+    requires { Parted start.now parts × (16 * parts.chunks * 43 ≤ length cells.old) }
+    ensures { FastLaid (16 * parts.chunks) variables (fast_of start.now parts) parts.fast cells.old cells.new }
 {
-    let parts = plan.parts;
-    let variables = plan.table.shape.variables;
     let mut run = 1;
-    for (v, size) in plan.start.sizes[..parts.fast].iter().enumerate() {
+    for (v, size) in start.sizes[..parts.fast].iter().enumerate() {
         let at = 16 * parts.chunks * (2 + v);
         let same = if *size == 1 { parts.lanes } else { run };
         lay_digit(cells, at, parts.lanes, same, *size, least(variables, v));
@@ -64,26 +63,26 @@ fn lay_fast(plan: &Plan, cells: &mut [u8])
 }
 
 // False, true and the fast digits: these lanes are the same in every block.
-pub fn lay_lanes(plan: &Plan, cells: &mut [u8])
-    requires { 16 * plan.now.parts.chunks * 43 ≤ length cells.old }
-    ensures { LanesReady (16 * plan.now.parts.chunks) plan.now.table.shape.variables (fast_of plan.now.start plan.now.parts) cells.new }
+pub fn lay_lanes(variables: usize, parts: Parts, start: &Odometer, cells: &mut [u8])
+    requires { Parted start.now parts × (16 * parts.chunks * 43 ≤ length cells.old) }
+    ensures { LanesReady (16 * parts.chunks) variables (fast_of start.now parts) cells.new }
 {
-    let chunks = plan.parts.chunks;
-    fill(cells, 0, chunks, 0);
-    fill(cells, 16 * chunks, chunks, 1);
-    lay_fast(plan, cells);
+    fill(cells, 0, parts.chunks, 0);
+    fill(cells, 16 * parts.chunks, parts.chunks, 1);
+    lay_fast(variables, parts, start, cells);
 }
 
-// The first slow digits, each in all lanes of its cell.
-pub fn lay_slow(plan: &Plan, digits: &[u8], cells: &mut [u8])
-    requires { (plan.now.parts.fast + length digits.now ≤ 40) × (16 * plan.now.parts.chunks * 42 ≤ length cells.old) × ((v : ℕ) → get_or digits.now v 0 + 1 < 256) }
-    ensures { SlowLaid (16 * plan.now.parts.chunks) plan.now.table.shape.variables plan.now.parts.fast digits.now (length digits.now) cells.old cells.new }
+// The first slow digits, each in all lanes of its cell. Where a cell has no lanes, there is nothing to lay.
+pub fn lay_slow(variables: usize, parts: Parts, digits: &[u8], cells: &mut [u8])
+    requires { (parts.fast + length digits.now ≤ 40) × (parts.chunks ≤ 8) × (16 * parts.chunks * 42 ≤ length cells.old) × ((v : ℕ) → get_or digits.now v 0 + 1 < 256) }
+    ensures { SlowLaid (16 * parts.chunks) variables parts.fast digits.now (length digits.now) cells.old cells.new }
 {
-    let parts = plan.parts;
-    let variables = plan.table.shape.variables;
-    for (j, digit) in digits.iter().enumerate() {
+    if parts.chunks == 0 {
+        return;
+    }
+    for j in 0..digits.len() {
         let v = parts.fast + j;
         let at = 16 * parts.chunks * (2 + v);
-        fill(cells, at, parts.chunks, *digit + least(variables, v));
+        fill(cells, at, parts.chunks, digits[j] + least(variables, v));
     }
 }

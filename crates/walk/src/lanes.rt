@@ -67,7 +67,7 @@ pub fn first_false(lanes: &[u8]) -> Option<usize>
     if !lanes.contains(&0) {
         return None;
     }
-    lanes.iter().position(|lane| *lane == 0)
+    (0..lanes.len()).find(|lane| lanes[*lane] == 0)
 }
 
 // Where the lanes of the cell of the node at a position begin.

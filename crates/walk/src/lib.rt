@@ -26,8 +26,15 @@ pub mod odometer;
 pub mod plan;
 pub mod split;
 
-// The first false place of the table, among as many as the budget allows: its values are left in values. Where there is none, all
-// of them are true. Places of the same block past the one found have been worked out too; nothing depends on them. A table is
+// How far the walk went: the places looked at, in order from place 1, and whether the last of them is false. Places of the same
+// block past the last one looked at have been worked out too; they are not counted, and nothing depends on them.
+#[derive(Clone, Copy)]
+pub struct Walked {
+    pub tried: u64,
+    pub falsified: bool,
+}
+
+// As many places of the table are tried as the budget allows. Where the last is false, its values are left in values. A table is
 // walked in arrays that are no larger than need be: to clear the largest takes longer than most small jobs.
 pub fn walk(
     table: FreeTable<'_>,
@@ -35,7 +42,7 @@ pub fn walk(
     start: Odometer,
     budget: u64,
     values: &mut [u8],
-) -> Option<u64>
+) -> Walked
     requires { RootIn table.bytes.now table.shape root × Starts table.shape start × (table.shape.nodes ≤ length values.old) }
     ensures { WalkIs table.entry.bytes.now table.entry.shape root start (min budget (product_of (sizes_in start))) values.new result }
 {
@@ -62,7 +69,7 @@ fn walk_sized<const NODES: usize, const CELLS: usize>(
     plan: &Plan,
     budget: u64,
     values: &mut [u8],
-) -> Option<u64>
+) -> Walked
     requires nodes { (plan.now.table.shape.nodes ≤ NODES) × (NODES ≤ 2632) }
     requires cells { (16 * plan.now.parts.chunks * (42 + plan.now.table.shape.nodes) ≤ CELLS) × (CELLS ≤ 57344) }
     requires values { plan.now.table.shape.nodes ≤ length values.old }
@@ -99,9 +106,10 @@ fn begin(plan: &Plan, positions: &mut [u16], branches: &mut [Branch], cells: &mu
     let parts = plan.parts;
     let starts = arrange(table, parts.fast, &plan.start.sizes, positions);
     decode(table, parts.chunks, positions, branches);
-    lay_lanes(plan, cells);
+    let variables = table.shape.variables;
+    lay_lanes(variables, parts, &plan.start, cells);
     let slow = plan.start.slow(parts.fast);
-    lay_slow(plan, &slow.digits[..slow.count], cells);
+    lay_slow(variables, parts, &slow.digits[..slow.count], cells);
     let root = cell_of(positions[plan.root], parts.chunks);
     Begun { starts, slow, root }
 }
@@ -115,11 +123,12 @@ fn walk_on(
     branches: &[Branch],
     cells: &mut [u8],
     values: &mut [u8],
-) -> Option<u64>
+) -> Walked
     requires { Begins plan.now positions.now branches.now cells.old begun.now × (length positions.now ≡ plan.now.table.shape.nodes) × (length branches.now ≡ plan.now.table.shape.nodes) × (16 * plan.now.parts.chunks * (42 + plan.now.table.shape.nodes) ≤ length cells.old) × (plan.now.table.shape.nodes ≤ length values.old) }
     ensures { PlanWalked plan.now budget values.new result }
 {
     let parts = plan.parts;
+    let variables = plan.table.shape.variables;
     let mut odometer = begun.slow;
     let mut tried = 0;
     let mut from = 0;
@@ -129,14 +138,27 @@ fn walk_on(
         let many = lanes_in(budget - tried, parts.lanes);
         if let Some(lane) = first_false(&cells[begun.root..begun.root + many]) {
             values_of(cells, positions, parts.chunks, lane, values);
-            return Some(tried + lane as u64 + 1);
+            return Walked {
+                tried: tried + lane as u64 + 1,
+                falsified: true,
+            };
         }
         tried += many as u64;
-        let turned = odometer.next()?;
-        lay_slow(plan, &odometer.digits[..turned + 1], cells);
+        let step = odometer.next();
+        odometer = step.odometer;
+        let Some(turned) = step.turned else {
+            return Walked {
+                tried,
+                falsified: false,
+            };
+        };
+        lay_slow(variables, parts, &odometer.digits[..turned + 1], cells);
         from = usize::from(begun.starts[parts.fast + turned]);
     }
-    None
+    Walked {
+        tried,
+        falsified: false,
+    }
 }
 
 // As many lanes as there are places left, and at most all.

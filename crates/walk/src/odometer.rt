@@ -11,22 +11,46 @@ pub struct Odometer {
     pub ghost turning: { Turning digits sizes count },
 }
 
+// The next digits and the digit that turned; at the end none does, and the digits are the first again. All digits below the turned
+// one went back to 0, and those above it stayed.
+#[derive(Clone, Copy)]
+pub struct Step {
+    pub odometer: Odometer,
+    pub turned: Option<usize>,
+}
+
 impl Odometer {
     ghost use Rattle.walk.specs.Digits.{NextIs, SlowIs};
 
-    // The assignment becomes its successor, and tells the digit that turned: all below it went back to 0, and those above it stayed.
-    // After the last there is none, and the digits are the first again.
-    pub fn next(&mut self) -> Option<usize>
-        ensures { NextIs self.old self.new result }
+    // The assignment hands on its successor.
+    pub fn next(self) -> Step
+        ensures { NextIs self result.odometer result.turned }
     {
-        for i in 0..self.count {
-            if self.digits[i] + 1 < self.sizes[i] {
-                self.digits[i] += 1;
-                return Some(i);
+        let sizes = self.sizes;
+        let count = self.count;
+        let mut digits = self.digits;
+        for i in 0..count {
+            if digits[i] + 1 < sizes[i] {
+                digits[i] += 1;
+                return Step {
+                    odometer: Odometer {
+                        digits,
+                        sizes,
+                        count,
+                    },
+                    turned: Some(i),
+                };
             }
-            self.digits[i] = 0;
+            digits[i] = 0;
         }
-        None
+        Step {
+            odometer: Odometer {
+                digits,
+                sizes,
+                count,
+            },
+            turned: None,
+        }
     }
 
     // The odometer of the digits after the first ones, at its first place.

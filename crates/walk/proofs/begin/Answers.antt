@@ -15,7 +15,8 @@ decode-requires c =
 
 pub lay_lanes-requires : goal.lay_lanes-requires
 lay_lanes-requires c =
-    one_fits (16 * c.args.plan.now.parts.chunks) c.args.plan.now.table.shape.nodes c.args.plan.now.root _ c.args.plan.now.planned.root_in.below c.requires.2
+    let p = c.args.plan.now.planned in
+    (p.parts_are.parted, one_fits (16 * c.args.plan.now.parts.chunks) c.args.plan.now.table.shape.nodes c.args.plan.now.root _ p.root_in.below c.requires.2)
 
 pub cell_of-root-requires : goal.cell_of-root-requires
 cell_of-root-requires c =

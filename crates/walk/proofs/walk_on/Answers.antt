@@ -6,7 +6,7 @@ use Rattle.walk.proofs.Arranging.{in_order}
 use Rattle.walk.proofs.Slow.{slow_part, small_part}
 use Rattle.walk.proofs.Calling.{ready_all, digits_small, digits_fit, root_fits, root_small}
 use Rattle.walk.proofs.Found.{FirstLane, found_some, found_none}
-use Rattle.walk.proofs.Going.{all_fresh, turned_few, goes_on, ends_there, ends_spent}
+use Rattle.walk.proofs.Going.{all_fresh, turned_next, turned_few, goes_on, ends_there, ends_spent}
 use Rattle.walk.proofs.Walking.{lanes_few, falsifies}
 use Rattle.walk.proofs.walk_on.Goals as goal
 
@@ -76,11 +76,8 @@ returns-in-Some c =
     (subst (λ (n : ℕ). LaneCopied (16 * c.args.plan.now.parts.chunks) (positions_in c.args.positions.now) c.evaluate.new.cells c.in-Some.lane n c.values_of.new.values) long
     c.values_of.ensures)
 
-pub shape_of-cells-in_err-turned : goal.shape_of-cells-in_err-turned
-shape_of-cells-in_err-turned c = c.evaluate.auto.cells ∙ c.loop-tried.invariant.room
-
-pub returns-in_err-turned : goal.returns-in_err-turned
-returns-in_err-turned c =
+pub returns-in_default-turned : goal.returns-in_default-turned
+returns-in_default-turned c =
     let b = c.requires.0 in
     let v = c.loop-tried.invariant in
     let room = v.room in
@@ -90,9 +87,9 @@ returns-in_err-turned c =
     found_none c.evaluate.new.cells c.args.begun.now.root c.lanes_in-many.result (root_fits b _ _ _ c.lanes_in-many.ensures (omega arith))
     (sym c.first_false.ensures ∙ c.in_default.is)
     in
-    rw c.from_residual.ensures
-    (ends_there _ _ _ _ b.setting _ _ _ _ _ v.block v.walking _ c.evaluate.ensures c.loop-tried-test.true _ many.0 many.1 many.2
-    (subst (λ (a : ℕ). FirstLane c.evaluate.new.cells a c.lanes_in-many.result c.lanes_in-many.result) b.root_is f) _ c.in_err-turned.ensures _)
+    ends_there _ _ _ _ b.setting _ _ _ _ _ v.block v.walking _ c.evaluate.ensures c.loop-tried-test.true _ many.0 many.1 many.2
+    (subst (λ (a : ℕ). FirstLane c.evaluate.new.cells a c.lanes_in-many.result c.lanes_in-many.result) b.root_is f) _
+    (turned_next c.in_default-turned.is c.next-step.ensures) _
 
 pub lay_slow-requires : goal.lay_slow-requires
 lay_slow-requires c =
@@ -100,19 +97,16 @@ lay_slow-requires c =
     let v = c.loop-tried.invariant in
     let room = v.room in
     let d = c.evaluate.auto.cells in
-    let p = c.args.plan.now.planned.parts_are.parted in
-    let some = p.lanes_some in
-    let fit = p.lanes_fit in
-    let n = c.in_ok-turned.ensures in
-    let m = length-take (c.in_ok-turned.turned + 1) c.next.new.self.digits in
+    let n = turned_next c.in-Some-turned.is c.next-step.ensures in
+    let m = length-take (c.in-Some-turned.turned + 1) c.next-step.result.odometer.digits in
     let few = turned_few _ _ _ _ b.setting _ _ _ _ _ v.block v.walking _ _ n in
     let u = digits_fit (16 * c.args.plan.now.parts.chunks) c.args.plan.now.table.shape.nodes (length c.args.cells.now) c.requires.3 in
-    (omega arith, omega arith, small_part _ _ (digits_small c.next.new.self))
+    (omega arith, c.args.plan.now.planned.parts_are.parted.chunks_few, omega arith, small_part _ _ (digits_small c.next-step.result.odometer))
 
 pub bounds-begun-parts : goal.bounds-begun-parts
 bounds-begun-parts c =
     let v = c.loop-tried.invariant in
-    let few = turned_few _ _ _ _ c.requires.0.setting _ _ _ _ _ v.block v.walking _ _ c.in_ok-turned.ensures in
+    let few = turned_few _ _ _ _ c.requires.0.setting _ _ _ _ _ v.block v.walking _ _ (turned_next c.in-Some-turned.is c.next-step.ensures) in
     omega arith
 
 pub loop-tried-preserved : goal.loop-tried-preserved
@@ -121,8 +115,8 @@ loop-tried-preserved c =
     let v = c.loop-tried.invariant in
     let room = v.room in
     let d = c.evaluate.auto.cells in
-    let n = c.in_ok-turned.ensures in
-    let long = c.next.new.self.turning.digits_long in
+    let n = turned_next c.in-Some-turned.is c.next-step.ensures in
+    let long = c.next-step.result.odometer.turning.digits_long in
     let many = lanes_few _ _ _ c.lanes_in-many.ensures in
     let few = turned_few _ _ _ _ b.setting _ _ _ _ _ v.block v.walking _ _ n in
     let f =

@@ -1,4 +1,4 @@
-use Rattle.std.proofs.Common.{◌≡◌, suc, ◌-◌, ◌∙◌, subst, arith}
+use Rattle.std.proofs.Common.{◌≡◌, suc, ◌-◌, subst, arith}
 use Rattle.asked.proofs.Walking.{Walking, walk_begins, walk_marked, walk_passed, walk_ends}
 use Rattle.asked.proofs.reach.reach.Goals as goal
 

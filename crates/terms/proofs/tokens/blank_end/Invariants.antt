@@ -1,7 +1,10 @@
 -- What is passed and what is still to come make up the whole.
-use Rattle.std.proofs.Common.{◌≡◌, ◌+◌, false, drop}
-use Rattle.definitions.specs.Text.Tokens.{blank}
+use Rattle.std.proofs.Common.{◌-◌, length}
+use Rattle.terms.specs.Lexing.{WhiteTo}
 use Rattle.terms.proofs.tokens.blank_end.Given as goal
 
-abbrev pub invariant-loop-passed : goal.invariant-loop-passed
-invariant-loop-passed l = l.from + blank false (drop l.from l.text) ≡ l.from + l.passed + blank l.comment (drop (l.from + l.passed) l.text)
+abbrev pub invariant-loop-at : goal.invariant-loop-at
+invariant-loop-at l = WhiteTo l.text l.from l.at
+
+abbrev pub decreases-loop-at : goal.decreases-loop-at
+decreases-loop-at l = length l.text - l.at

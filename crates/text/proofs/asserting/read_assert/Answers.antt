@@ -9,30 +9,30 @@ use Rattle.text.proofs.AssertLaws.{formula_wanted, not_closed, closed_there}
 use Rattle.text.proofs.asserting.read_assert.Goals as goal
 
 pub returns-in-Closing : goal.returns-in-Closing
-returns-in-Closing c =
+returns-in-Closing c i =
     let text = c.args.text.now in
-    closed_early text c.args.script.now.declared.sort.now c.requires.commands one_formula end [] c.args.at c.requires.reached c.next-token.result c.next-token.ensures
+    closed_early text c.args.script.now.declared.sort.now i.commands one_formula end [] c.args.at i.reached c.next-token.result c.next-token.ensures
     (ap lexeme_read c.in-Closing.is) refl
 
 pub returns-in_err-term : goal.returns-in_err-term
-returns-in_err-term c =
+returns-in_err-term c i =
     let p = err_from_is_err_and c.from_residual.result c.from_residual.ensures.1 in
     let text = c.args.text.now in
-    let wanted = formula_wanted c.requires c.next-token.result c.next-token.ensures (not_closing c.next-token.result.lexeme c.in_default.not-Closing) in
-    rw (p.1, p.2) (c.in_err-term.ensures.says c.args.script.now.declared.sort.now c.requires.commands one_formula end [] c.args.at wanted)
+    let wanted = formula_wanted i c.next-token.result c.next-token.ensures (not_closing c.next-token.result.lexeme c.in_default.not-Closing) in
+    rw (p.1, p.2) (c.in_err-term.ensures.says c.args.script.now.declared.sort.now i.commands one_formula end [] c.args.at wanted)
 
 pub returns-in_err-closed : goal.returns-in_err-closed
-returns-in_err-closed c =
+returns-in_err-closed c i =
     let p = err_from_is_err_and c.from_residual-in_err-closed.result c.from_residual-in_err-closed.ensures.1 in
     let text = c.args.text.now in
-    let wanted = formula_wanted c.requires c.next-token.result c.next-token.ensures (not_closing c.next-token.result.lexeme c.in_default.not-Closing) in
-    let read = c.in_ok-term.ensures.says c.args.script.now.declared.sort.now c.requires.commands one_formula end [] c.args.at wanted in
-    rw (p.1, p.2) (not_closed c.requires read c.in_err-closed.field-0.0 c.in_err-closed.ensures.0)
+    let wanted = formula_wanted i c.next-token.result c.next-token.ensures (not_closing c.next-token.result.lexeme c.in_default.not-Closing) in
+    let read = c.in_ok-term.ensures.says c.args.script.now.declared.sort.now i.commands one_formula end [] c.args.at wanted in
+    rw (p.1, p.2) (not_closed i read c.in_err-closed.field-0.0 c.in_err-closed.ensures.0)
 
 pub returns : goal.returns
-returns c =
+returns c i =
     let text = c.args.text.now in
-    let wanted = formula_wanted c.requires c.next-token.result c.next-token.ensures (not_closing c.next-token.result.lexeme c.in_default.not-Closing) in
-    let read = c.in_ok-term.ensures.says c.args.script.now.declared.sort.now c.requires.commands one_formula end [] c.args.at wanted in
+    let wanted = formula_wanted i c.next-token.result c.next-token.ensures (not_closing c.next-token.result.lexeme c.in_default.not-Closing) in
+    let read = c.in_ok-term.ensures.says c.args.script.now.declared.sort.now i.commands one_formula end [] c.args.at wanted in
     let onward : c.args.at ≤ c.in_ok-term.term.at = omega (arith, c.next-token.ensures.later, c.in_ok-term.ensures.sound.0) in
-    closed_there c.requires read c.in_ok-closed.closed c.in_ok-closed.ensures.0 onward c.keep.ensures
+    closed_there i read c.in_ok-closed.closed c.in_ok-closed.ensures.0 onward c.keep.ensures

@@ -7,6 +7,6 @@ use Rattle.walk.proofs.cells.lay_fast.Given as goal
 abbrev pub invariant-loop-v : goal.invariant-loop-v
 invariant-loop-v l =
     record {
-      laid : FastLaid (16 * l.plan.parts.chunks) l.plan.table.shape.variables (take l.plan.parts.fast l.plan.start.sizes) l.v l.initial.cells l.cells;
-      run_is : l.run ≡ product_of (take l.v (take l.plan.parts.fast l.plan.start.sizes));
+      laid : FastLaid (16 * l.parts.chunks) l.variables (take l.parts.fast l.start.sizes) l.v l.initial.cells l.cells;
+      run_is : l.run ≡ product_of (take l.v (take l.parts.fast l.start.sizes));
     }

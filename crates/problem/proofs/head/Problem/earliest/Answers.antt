@@ -1,22 +1,20 @@
-use Rattle.std.proofs.Common.{rules, tests, ℕ, Bool, true, false, not, ◌≡◌, ◌<◌, ◌≤◌, length, sym, ap, ap₂, ◌∙◌, arith}
-use Rattle.std.proofs.lemmas.Iterator.{first_from_Range}
-use Rattle.definitions.specs.Problem.Node.{Node, node, same}
+use Rattle.std.proofs.Common.{◌≤◌, length, sym, ap₂, ◌∙◌, arith}
+use Rattle.definitions.specs.Problem.Node.{same}
 use Rattle.definitions.specs.Problem.Check.{nodes_of}
-use Rattle.problem.specs.Nodes.{node_read}
 use Rattle.problem.proofs.NodeLaws.{length_nodes_of}
-use Rattle.problem.proofs.Scans.{scan_found, same_fields, same_from, same_here, same_later, same_nowhere}
+use Rattle.problem.proofs.Scans.{same_fields, same_here, same_later}
 use Rattle.problem.proofs.head.Problem.earliest.Goals as goal
 
-pub returns : goal.returns
-returns c =
+pub loop-j-preserved : goal.loop-j-preserved
+loop-j-preserved c =
     let t = nodes_of c.args.self.now in
-    let n = c.args.k in
-    let within : n ≤ length t = omega (arith, length_nodes_of c.args.self.now, c.requires) in
-    let like : ℕ → Bool = λ j. same (node t n) (node t j) in
-    scan_found n (λ j. like j ≡ true) (λ j. like j ≡ false) (same_from t n)
-    (λ j h e. same_here t n within j h e)
-    (λ j h e. same_later t n within j h e)
-    (same_nowhere t n within)
-    c.find.result
-    (first_from_Range _ _ _ c.find.result (λ j. like j ≡ true) (λ j. like j ≡ false) c.find.ensures.ran
-    (λ x q k. search (rules, tests, same_fields, c.node-node.ensures)) (λ x q k. search (rules, tests, same_fields, c.node-node.ensures)))
+    let within : c.args.k ≤ length t = omega (arith, length_nodes_of c.args.self.now, c.requires) in
+    let apart = sym (ap₂ same c.node-node.ensures c.node.ensures) ∙ sym (same_fields c.node-node.result c.node.result) ∙ sym c.eq.ensures ∙ c.if-eq.false in
+    sym (same_later t c.args.k within c.loop-j.j c.loop-j-test.true apart) ∙ c.loop-j.invariant
+
+pub returns-then-eq : goal.returns-then-eq
+returns-then-eq c =
+    let t = nodes_of c.args.self.now in
+    let within : c.args.k ≤ length t = omega (arith, length_nodes_of c.args.self.now, c.requires) in
+    let alike = sym (ap₂ same c.node-node.ensures c.node.ensures) ∙ sym (same_fields c.node-node.result c.node.result) ∙ sym c.eq.ensures ∙ c.if-eq.true in
+    sym (same_here t c.args.k within c.loop-j.j c.loop-j-test.true alike) ∙ c.loop-j.invariant

@@ -1,4 +1,4 @@
-use Rattle.std.proofs.Common.{rules, tests, ℕ, Bool, true, false, ◌≡◌, ◌<◌, take, length, sym, ◌∙◌, arith}
+use Rattle.std.proofs.Common.{rules, tests, ℕ, Bool, true, false, ◌≡◌, take, arith}
 use Rattle.std.proofs.lemmas.Iterator.{first_from_Range}
 use Rattle.definitions.specs.Problem.Node.{node}
 use Rattle.definitions.specs.Problem.Ops.{node_right}

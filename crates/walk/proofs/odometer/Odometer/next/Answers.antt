@@ -3,12 +3,12 @@ use Rattle.std.proofs.Common.{refl}
 use Rattle.walk.proofs.Carrying.{turned, wrapped}
 use Rattle.walk.proofs.odometer.Odometer.next.Goals as goal
 
-pub returns-then-self-i : goal.returns-then-self-i
-returns-then-self-i c =
+pub returns-then-digits-i : goal.returns-then-digits-i
+returns-then-digits-i c =
     let v = c.loop-i.invariant in
-    turned _ _ _ v.carrying _ c.loop-i-test.true (rw v.same_sizes at c.if-self-i.true) refl v.same_sizes v.same_count
+    turned _ _ _ v.carrying _ c.loop-i-test.true c.if-digits-i.true refl refl refl
 
 pub returns : goal.returns
 returns c =
     let v = c.loop-i.invariant in
-    wrapped _ _ _ v.carrying _ c.loop-i-test.false refl v.same_sizes v.same_count
+    wrapped _ _ _ v.carrying _ c.loop-i-test.false refl refl refl
