@@ -3,7 +3,7 @@ use Rattle.std.specs.Prelude.{◌≡◌, ℕ, ◌+◌, ◌-◌, ◌≤◌, ◌<�
 use Rattle.std.specs.Prelude as code
 use Rattle.std.proofs.Math.Option.{Option, none, some}
 use Rattle.definitions.specs.Text.Ascii.{same_bytes}
-use Rattle.definitions.specs.Text.Tokens.{white_space, opening, closing, nought, wrong, symbol, word, Placed, token_at, tokens_from, blank, barred}
+use Rattle.definitions.specs.Text.Tokens.{opening, closing, nought, wrong, symbol, word, Placed, token_at, tokens_from, blank, barred}
 use Rattle.definitions.specs.Text.Tokens as tokens
 use Rattle.terms.specs.declared.tokens.Lexeme.{Lexeme}
 use Rattle.terms.specs.declared.tokens.Token.{Token}
@@ -70,13 +70,6 @@ pub record CommentTo (text : List ℕ) (from to : ℕ) : Type 0 where
   pub goes_on : from + blank true (drop from text) ≡ to + blank false (drop to text)
   pub onward : from ≤ to
   pub inside : to ≤ length text
-
--- white space is passed, and the gap goes on
-pub record WhiteTo (text : List ℕ) (from to : ℕ) : Type 0 where
-  pub goes_on : from + blank false (drop from text) ≡ to + blank false (drop to text)
-  pub onward : from ≤ to
-  pub inside : to ≤ length text
-  pub stops : to < length text → white_space (get_or text to 0) ≡ false
 
 -- a gap that began at an offset ends
 pub record BlankTo (text : List ℕ) (from to : ℕ) : Type 0 where

@@ -1,7 +1,7 @@
 // From the bytes of a text to its tokens, one at a time (02, E1; docs/TEXT.md, 'Tokens').
 ghost use Rattle.std.specs.Prelude.{◌≡◌, ◌<◌, ◌≤◌, true, length, get_or, drop};
 ghost use Rattle.definitions.specs.Text.Tokens.{word_byte, run};
-ghost use Rattle.terms.specs.Lexing.{CommentTo, WhiteTo, BlankTo, RunsTo, BarredTo, numeral_read, bracket_read, TokenIs, Lexed};
+ghost use Rattle.terms.specs.Lexing.{CommentTo, BlankTo, RunsTo, BarredTo, numeral_read, bracket_read, TokenIs, Lexed};
 
 use crate::bytes::{bar_byte, line_break, white, word_byte};
 use crate::words::reserved;
@@ -32,36 +32,34 @@ fn comment_end(text: &[u8], from: usize) -> usize
     requires { from ≤ length text.now }
     ensures { CommentTo text.now from result }
 {
-    for at in from..text.len() {
+    let mut at = from;
+    // No `for`: of this loop and the next one the compiler makes fewer and shorter jumps, and texts of blanks are read twice as fast.
+    while at < text.len() {
         if line_break(text[at]) {
             return at + 1;
         }
+        at += 1;
     }
-    text.len()
+    at
 }
 
-// Where white space ends.
-fn white_end(text: &[u8], from: usize) -> usize
-    requires { from ≤ length text.now }
-    ensures { WhiteTo text.now from result }
-{
-    for at in from..text.len() {
-        if !white(text[at]) {
-            return at;
-        }
-    }
-    text.len()
-}
-
-// Where white space and comments end. One loop over all bytes, with a flag for comments, took up to twice as long.
+// Where white space and comments end. By itself: inside `next` the compiler has too few registers for it, and makes it slower by a half.
+#[inline(never)]
 fn blank_end(text: &[u8], from: usize) -> usize
     requires { from ≤ length text.now }
     ensures { BlankTo text.now from result }
 {
-    let mut at = white_end(text, from);
-    // No `for`: a comment and the white space behind it are passed in one step.
-    while at < text.len() && text[at] == b';' {
-        at = white_end(text, comment_end(text, at + 1));
+    let mut at = from;
+    while at < text.len() {
+        let b = text[at];
+        if white(b) {
+            at += 1;
+            continue;
+        }
+        if b != b';' {
+            return at;
+        }
+        at = comment_end(text, at + 1);
     }
     at
 }

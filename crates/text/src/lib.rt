@@ -36,7 +36,8 @@ fn read_with<'a>(
     end(problem, &mut script)
 }
 
-// With a shelf of 4096 symbols. Not generic in the length: an array of N structs that hold references gets no proof.
+// With a shelf of 4096 symbols. Not generic in the length: an array of N structs that hold references gets no proof. To fill a shelf
+// takes longer than to read a text that needs a quarter of it.
 fn read_long<'a>(text: &'a [u8], problem: &mut [u8], named: Named<'a>) -> Result<usize, Refusal>
     requires { Readable text.now problem.old named }
     ensures { ReadPromise text.now problem.old result problem.new }
@@ -45,12 +46,21 @@ fn read_long<'a>(text: &'a [u8], problem: &mut [u8], named: Named<'a>) -> Result
     read_with(text, problem, named, &mut shelf)
 }
 
-// With a shelf of 1024 symbols. To fill the long one takes longer than to read a text of some thousand bytes.
+// With a shelf of 1024 symbols.
 fn read_middle<'a>(text: &'a [u8], problem: &mut [u8], named: Named<'a>) -> Result<usize, Refusal>
     requires { Readable text.now problem.old named }
     ensures { ReadPromise text.now problem.old result problem.new }
 {
     let mut shelf = [Shelved { name: b"", byte: 0 }; 1024];
+    read_with(text, problem, named, &mut shelf)
+}
+
+// With a shelf of 256 symbols.
+fn read_short<'a>(text: &'a [u8], problem: &mut [u8], named: Named<'a>) -> Result<usize, Refusal>
+    requires { Readable text.now problem.old named }
+    ensures { ReadPromise text.now problem.old result problem.new }
+{
+    let mut shelf = [Shelved { name: b"", byte: 0 }; 256];
     read_with(text, problem, named, &mut shelf)
 }
 
@@ -69,6 +79,9 @@ pub fn read(text: &[u8], problem: &mut [u8]) -> Result<usize, Refusal>
     if text.len() >= 4608 {
         return read_middle(text, problem, named);
     }
-    let mut shelf = [Shelved { name: b"", byte: 0 }; 256];
+    if text.len() >= 1152 {
+        return read_short(text, problem, named);
+    }
+    let mut shelf = [Shelved { name: b"", byte: 0 }; 64];
     read_with(text, problem, named, &mut shelf)
 }
