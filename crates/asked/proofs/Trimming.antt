@@ -1,6 +1,6 @@
 -- The problem asked, from its pieces: the front, and the whole. Assumes nothing.
 use borrow.Rule.Slice.PartMut.{put_mid, mid_of}
-use mathlib.Core.Path.{◌≡◌, refl, sym, ap, ◌∙◌}
+use mathlib.Core.Path.{◌≡◌, refl, sym, ap, ◌∙◌, subst}
 use Prim.Native.Nat.{ℕ, suc, ◌+◌, ◌*◌, ◌-◌, ◌≤◌}
 use native.Mathlib.Omega.{arith}
 use mathlib.Core.List.{List, ◌++◌}
@@ -78,10 +78,19 @@ module _ {s : List ℕ} {root : ℕ} (ok : Named s root) (count : ℕ) (counts :
       ∙ take_at (take at before ++ bytes) (drop (at + length bytes) before) (at + 8 * count) long
       ∙ ap (λ (xs : List ℕ). xs ++ bytes) f ∙ asked_bytes
 
+  -- in a buffer of a known length
+  pub trims_in : (n : ℕ) → n ≡ symbol_count s → (m : ℕ) (before ys : List ℕ) → length before ≡ m → 8 + n ≤ m → take (8 + n) before ≡ front s count
+      → ys ≡ over (table_bytes (trim_of s root)) (mid_of (8 + n) (m - (8 + n)) before)
+      → take (8 + n + 8 * count) (put_mid (8 + n) (m - (8 + n)) before ys) ≡ asked s root
+  trims_in n is m before ys l fits f =
+      subst (λ (k : ℕ). ys ≡ over (table_bytes (trim_of s root)) (mid_of (8 + n) (k - (8 + n)) before)
+      → take (8 + n + 8 * count) (put_mid (8 + n) (k - (8 + n)) before ys) ≡ asked s root) l
+      (trims n is before ys (omega arith) f)
+
   -- in a room that is long enough, once its front is put
-  pub trims_in : (n : ℕ) → n ≡ symbol_count s → (symbols room before ys : List ℕ) → symbols ≡ symbols_of s → before ≡ over (front_bytes symbols count) room
+  pub trims_after : (n : ℕ) → n ≡ symbol_count s → (symbols room before ys : List ℕ) → symbols ≡ symbols_of s → before ≡ over (front_bytes symbols count) room
       → length before ≡ length room → 2088 ≤ length room → ys ≡ over (table_bytes (trim_of s root)) (mid_of (8 + n) (length before - (8 + n)) before)
       → take (8 + n + 8 * count) (put_mid (8 + n) (length before - (8 + n)) before ys) ≡ asked s root
-  trims_in n is symbols room before ys are put long fits =
-      trims n is before ys (let few = ok.table.few_symbols in omega arith)
+  trims_after n is symbols room before ys are put long fits =
+      trims_in n is (length before) before ys refl (let few = ok.table.few_symbols in omega arith)
       (ap (λ (k : ℕ). take (8 + k) before) is ∙ front_put ok.table count symbols room before are put)

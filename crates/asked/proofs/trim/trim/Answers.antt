@@ -2,7 +2,7 @@ use Rattle.std.proofs.Common.{◌∙◌, length, refl, sym, ap, arith}
 use Rattle.definitions.specs.Problem.Check.{symbol_count}
 use Rattle.problem.proofs.NodeLaws.{length_nodes_of}
 use Rattle.asked.proofs.Renumbering.{reached_few_of}
-use Rattle.asked.proofs.Trimming.{symbols_length, asked_shape, trims_in}
+use Rattle.asked.proofs.Trimming.{symbols_length, asked_shape, trims_after}
 use Rattle.asked.proofs.trim.trim.Goals as goal
 
 pub reach-count-requires : goal.reach-count-requires
@@ -30,7 +30,7 @@ overflow_add-result-2 c = omega (arith, c.reach-count.ensures.counted, reached_f
 -- the front and the nodes are the problem asked
 pub returns : goal.returns
 returns c =
-    trims_in c.requires.0 c.reach-count.result c.reach-count.ensures.counted c.problem.inside.symbols
+    trims_after c.requires.0 c.reach-count.result c.reach-count.ensures.counted c.problem.inside.symbols
     (c.problem.invariant.symbols_are ∙ ap symbol_count c.problem.view_is) _ _ _ _ c.symbol_bytes.ensures c.put_front.ensures c.put_front.auto.whole
     c.requires.1 c.lay_reached.ensures
 
